@@ -1,18 +1,16 @@
 -- States that agree on the processes that make a later step.
 use Rattle.cap_trace.specs.Call.{Call}
-use Rattle.cap_trace.specs.Call as calls
-use Rattle.cap_trace.specs.Item as items
-use Rattle.cap_trace.specs.declared.line.Answer.TheVariants as answers
-use Rattle.cap_trace.specs.declared.calls.BareCall.TheVariants.{Fork, Vfork, Pdfork, CapEnter}
-use Rattle.cap_machine.specs.{Judge.judged, History.turned, Touch.call_turn, Touch.item_turn, Touch.succeeded, State.with_listed}
+use Rattle.cap_machine.specs.{Judge.judged, History.turned, Touch.call_turn, Touch.item_turn, State.with_listed}
 use Rattle.cap_machine.proofs.NamedFds.{named_sources}
-use Rattle.std.specs.Prelude.{◌≡◌, ◌+◌, ◌<◌, ◌≤◌, ◌∷◌, ◌++◌, ◌==◌, ◌&&◌, ℕ, List, [], Bool, true, false, not}
-use Rattle.std.specs.Prelude.{if◌then◌else◌, length, map, refl}
+use Rattle.std.specs.Prelude.{◌≡◌, ◌+◌, ◌<◌, ◌≤◌, ◌∷◌, ◌++◌, ℕ, List, [], Bool, true, false}
+use Rattle.std.specs.Prelude.{if◌then◌else◌, length, map, refl, Result, OnOk}
 use Rattle.cap_summary.specs.{Step, State, Cell, Unknown, Mode, Item, Answer, Check, stays, turns, follows, Touch}
-use Rattle.cap_summary.specs.{Inside, Outside, Finding, given, kept, taken, applied, touched, touch, ended, said, requirement, listed}
-use Rattle.cap_summary.specs.{declared.last_steps.LastSteps.LastSteps}
-use Rattle.cap_summary.specs.LastSteps.{last_of, IsNoLess, AreNoted, AgreeAfter}
-use Rattle.cap_summary.proofs.{ap, sym, ◌∙◌, arith, fun_ext, ne_eqb, subst, ends_in_turn}
+use Rattle.cap_summary.specs.{Finding, given, kept, taken, applied, touched, touch, ended, said, requirement, listed}
+use Rattle.cap_summary.specs.{Found, declared.judging.Asked.Asked, declared.last_steps.LastSteps.LastSteps}
+use Rattle.cap_summary.specs.LastSteps.{last_of, IsNoLess, AreNoted, AgreeAfter, AreJudged}
+use Rattle.cap_summary.proofs.{ap, sym, ◌∙◌, arith, fun_ext, ne_eqb, subst, ends_in_turn, inl, inr, cases_lt}
+use Rattle.cap_summary.proofs.{length-append, on_ok_weaker}
+use Rattle.cap_summary.proofs.Resolving.{found_outside, found_parts, same_beyond}
 
 -- ---- steps whose processes are noted
 
@@ -31,15 +29,12 @@ noted_both last at n (step ∷ t) u is first second = (
       (subst (λ m. AreNoted last m u) (omega (arith, is)) second),
 )
 
-pub noted_first : (last : LastSteps) (at : ℕ) (t u : List Step) → AreNoted last at (t ++ u) → AreNoted last at t
-noted_first last at [] u noted = tt
-noted_first last at (step ∷ t) u noted = (noted.0, noted_first last (at + 1) t u noted.1)
-
-pub noted_second : (last : LastSteps) (at n : ℕ) (t u : List Step) → n ≡ length t → AreNoted last at (t ++ u)
-    → AreNoted last (at + n) u
-noted_second last at n [] u is noted = subst (λ m. AreNoted last m u) (omega (arith, is)) noted
-noted_second last at n (step ∷ t) u is noted = subst (λ m. AreNoted last m u) (omega (arith, is))
-    (noted_second last (at + 1) (length t) t u refl noted.1)
+pub noted_parts : (last : LastSteps) (at n : ℕ) (t u : List Step) → n ≡ length t → AreNoted last at (t ++ u)
+    → AreNoted last at t × AreNoted last (at + n) u
+noted_parts last at n [] u is noted = (tt, subst (λ m. AreNoted last m u) (omega (arith, is)) noted)
+noted_parts last at n (step ∷ t) u is noted =
+    let rest = noted_parts last (at + 1) (length t) t u refl noted.1 in
+    ((noted.0, rest.0), subst (λ m. AreNoted last m u) (omega (arith, is)) rest.1)
 
 -- ---- a step from two states
 
@@ -54,24 +49,10 @@ module _ (me p : ℕ) (s r : ℕ → Mode) (same : s p ≡ r p) (own : s me ≡ 
 
   call_agrees : (call : Call) (answer : Answer)
       → turned (call_turn call answer me p) s p ≡ turned (call_turn call answer me p) r p
-  call_agrees (calls.Bare CapEnter) answer = turns_if (succeeded answer && p == me) Inside
-  call_agrees (calls.Bare Fork) (answers.Made c) = follows_if (not (c == 0) && p == c)
-  call_agrees (calls.Bare Fork) (answers.Pair c d) = same
-  call_agrees (calls.Bare Fork) (answers.Fault e) = same
-  call_agrees (calls.Bare Vfork) (answers.Made c) = follows_if (not (c == 0) && p == c)
-  call_agrees (calls.Bare Vfork) (answers.Pair c d) = same
-  call_agrees (calls.Bare Vfork) (answers.Fault e) = same
-  call_agrees (calls.Bare Pdfork) (answers.Made c) = same
-  call_agrees (calls.Bare Pdfork) (answers.Pair c d) = follows_if (not (c == 0) && p == c)
-  call_agrees (calls.Bare Pdfork) (answers.Fault e) = same
-  call_agrees (calls.Bare _) answer = same
-  call_agrees _ answer = same
+  call_agrees call answer = grind (arith, same, own)
 
   item_agrees : (item : Item) → turned (item_turn item me p) s p ≡ turned (item_turn item me p) r p
-  item_agrees (items.Call call answer) = call_agrees call answer
-  item_agrees (items.Start fds) = turns_if (p == me) Outside
-  item_agrees items.Exit = turns_if (p == me) Mode.Unsure
-  item_agrees (items.Foreign g) = same
+  item_agrees item = grind (arith, same, own, call_agrees)
 
 module _ (last : LastSteps) (at : ℕ) (s r : State) (step : Step) (here : at < last_of last step.line.pid)
     (agree : AgreeAfter last at s r) where
@@ -102,27 +83,46 @@ module _ (last : LastSteps) (at : ℕ) (s r : State) (step : Step) (here : at < 
 pub agree_forgotten : (last : LastSteps) (at : ℕ) (s r : State) (me : ℕ) → last_of last me ≤ at
     → AgreeAfter last at s r → AgreeAfter last at s (with_listed r me Mode.Unsure Unknown [])
 agree_forgotten last at s r me none agree = record {
-  cells = λ p f lt. agree.cells p f lt
-      ∙ sym (ap (λ (b : Bool). if b then Unknown else r.cell p f) (ne_eqb p me (other p lt)));
-  modes = λ p lt. agree.modes p lt
-      ∙ sym (ap (λ (b : Bool). if b then Mode.Unsure else r.mode p) (ne_eqb p me (other p lt)));
+  cells = λ p f lt. rw (ne_eqb p me (other p lt)) (agree.cells p f lt);
+  modes = λ p lt. rw (ne_eqb p me (other p lt)) (agree.modes p lt);
 }
   where
     other : (p : ℕ) → at < last_of last p → p ≡ me → ⊥
     other p lt is = omega (arith, ap (λ (n : ℕ). last_of last n) is)
 
--- ---- steps one after the other
-
-pub agree_in_turn : (last : LastSteps) (m n : ℕ) (s r : State) (t u : List Step) → m ≡ n
-    → AgreeAfter last m (ended (ended s t) u) r → AgreeAfter last n (ended s (t ++ u)) r
-agree_in_turn last m n s r t u is agree = subst (λ k. AgreeAfter last k (ended s (t ++ u)) r) is
-    (subst (λ (state : State). AgreeAfter last m state r) (sym (ends_in_turn s t u)) agree)
-
-pub agree_none : (last : LastSteps) (at : ℕ) (s r : State) (t : List Step) → length t ≡ 0 → AgreeAfter last at s r
-    → AgreeAfter last (at + length t) (ended s t) r
-agree_none last at s r [] none agree = subst (λ n. AgreeAfter last n s r) (omega arith) agree
-agree_none last at s r (step ∷ t) none agree = absurd (omega (arith, none))
-
 -- a state agrees with itself
 pub agree_same : (last : LastSteps) (at : ℕ) (s : State) → AgreeAfter last at s s
 agree_same last at s = record { cells = λ p f lt. refl; modes = λ p lt. refl }
+
+-- ---- steps one after the other
+
+-- some that are beyond the last position that is asked for
+pub none_judged : (last : LastSteps) (asked : Asked) (at : ℕ) (t : List Step) (s r : State) (old : List Found)
+    → asked.to ≤ at → AgreeAfter last at s r → AreJudged last asked at t s r old old
+none_judged last asked at [] s r old beyond agree = record {
+  found = found_outside asked at s [] old (inr beyond);
+  agree = λ ends. subst (λ n. AgreeAfter last n s r) (omega arith) agree;
+}
+none_judged last asked at (step ∷ t) s r old beyond agree = record {
+  found = found_outside asked at s (step ∷ t) old (inr beyond);
+  agree = λ ends. absurd (omega (arith, ends, beyond));
+}
+
+pub judged_both : {X E : Type 0} (result : Result X E) (last : LastSteps) (asked : Asked) (at n : ℕ) (t u : List Step)
+    (s mid r : State) (old some new : List Found) → n ≡ length t → AreJudged last asked at t s mid old some
+    → ((s : State) → AgreeAfter last (at + n) s mid → OnOk result (AreJudged last asked (at + n) u s r some new))
+    → OnOk result (AreJudged last asked at (t ++ u) s r old new)
+judged_both result last asked at n t u s mid r old some new len first rest = elim (cases_lt asked.to (at + n)) [
+  | inl beyond ↦ on_ok_weaker result (λ done. record {
+    found = found_parts asked at n s t u old some new len first.found
+        (done.found ∙ ap (λ r. some ++ r) (same_beyond asked (at + n) mid (ended s t) u beyond));
+    agree = λ ends. absurd (omega (arith, length-append t u, len, beyond, ends));
+  }) (rest mid (agree_same last (at + n) mid))
+  | inr before ↦ on_ok_weaker result (λ done. record {
+    found = found_parts asked at n s t u old some new len first.found done.found;
+    agree = λ ends.
+        let agree = done.agree (omega (arith, length-append t u, len, ends)) in
+        let size : at + n + length u ≡ at + length (t ++ u) = omega (arith, length-append t u, len) in
+        rw (← size, ends_in_turn s t u) agree;
+  }) (rest (ended s t) (rw len (first.agree (omega (arith, len, before)))))
+]

@@ -1,17 +1,14 @@
 -- Asks that hold in every state, in none, or in some.
-use Rattle.std.proofs.{lemmas.Bool.and_cases, lemmas.List.Sums.AllPass-from_list_all}
-use Rattle.std.specs.Prelude.{◌≡◌, ◌<◌, ◌&&◌, ◌||◌, ◌∷◌, if◌then◌else◌, ℕ, true, false, refl, get_or, Bool, List, []}
-use Rattle.std.specs.Prelude.{not, All}
+use Rattle.std.specs.Prelude.{◌≡◌, ◌&&◌, ◌||◌, ◌∷◌, if◌then◌else◌, ℕ, true, false, refl, Bool, List, []}
+use Rattle.std.specs.Prelude.{not}
 use Rattle.cap_summary.specs.{list_all, none, has_all, OnExec, Set, Clear, Unsure, Cell, Unknown, Closed, Held, Mode}
-use Rattle.cap_summary.specs.{Inside, Outside, State, declared.ask.Ask.Ask}
-use Rattle.cap_summary.specs.{declared.key.Key.Key, declared.kinds.Kinds.Kinds}
-use Rattle.cap_summary.specs.Asks.{any_holds, standing, is_sure, certain_at, possible_at, CanBe, IsOpen}
-use Rattle.cap_summary.specs.Keys.{Cells, mode_cell, cell_mode, cells_of}
-use Rattle.cap_summary.specs.Tests.{has, has_kind, held_kind, lacks, any_held, any_kind, holding, passes}
-use Rattle.cap_summary.specs.Tests.{each_kind}
-use Rattle.cap_summary.proofs.{inl, inr, sym, ap, ◌∙◌, arith, or-false, or-true, and-false, All-nil, All-cons, or_parts}
+use Rattle.cap_summary.specs.{Inside, Outside, State, declared.ask.Ask.Ask, declared.key.Key.Key}
+use Rattle.cap_summary.specs.{declared.kinds.Kinds.Kinds, Keys.Cells, Keys.mode_cell, Keys.cell_mode, Keys.cells_of}
+use Rattle.cap_summary.specs.Asks.{standing, is_sure, certain_at, possible_at, IsOpen}
+use Rattle.cap_summary.specs.Tests.{has, has_kind, held_kind, lacks, any_held, any_kind, holding, passes, each_kind}
+use Rattle.cap_summary.proofs.{inl, inr, ap, ◌∙◌, arith, or-true, or_parts}
 use Rattle.cap_summary.proofs.{or_cases, TestPassing.own_rights, TestPassing.none_lacks}
-use Rattle.cap_summary.proofs.Bools.{not_true, and_left, and_right, or_left, or_right}
+use Rattle.cap_summary.proofs.Bools.{and_left, and_right}
 
 -- the state in which each cell and each mode is as given
 abbrev everywhere : Cell → Mode → State
@@ -28,30 +25,18 @@ stands r cells p (Key.Fd f) = refl
 -- ---- cells that lack none of the rights
 -- at a descriptor they pass by their kind
 pub sure_by_kind : (a : Ask) (c : Cell) → has_kind a.kinds c ≡ passes a (holding a.rights c)
-sure_by_kind a Unknown = sym (rw (and-false (has a.lacking 3)) (or-false (has a.kinds 3)))
-sure_by_kind a Closed = sym (rw (and-false (has a.lacking 4)) (or-false (has a.kinds 4)))
-sure_by_kind a (Held r flag) = sym (rw (own_rights a.rights, and-false (has a.lacking (held_kind flag)))
-    (or-false (has a.kinds (held_kind flag))))
+sure_by_kind a c = grind (arith, own_rights a.rights)
 
 -- what passes so passes in any state
 pub sure_passes : (a : Ask) (s : State) (p : ℕ) (k : Key) → is_sure a k (cells_of s p k) ≡ true
     → passes a (cells_of s p k) ≡ true
-sure_passes a s p Key.Mode is = by (s.mode p) is
-  where
-    by : (m : Mode) → passes a (mode_cell (cell_mode (mode_cell m))) ≡ true → passes a (mode_cell m) ≡ true
-    by Mode.Unsure is = is
-    by Inside is = is
-    by Outside is = is
+sure_passes a s p Key.Mode is = grind (arith, is)
 sure_passes a s p (Key.Fd f) is = rw (sure_by_kind a (s.cell p f) ∙ is) refl
 
 -- what fails so fails with more rights
 pub fails_with : (a : Ask) (r : ℕ) (k : Key) (c : Cell) → has_all r a.rights ≡ true → is_sure a k c ≡ false
     → passes a (standing r k c) ≡ false
-fails_with a r Key.Mode c all is = is
-fails_with a r (Key.Fd f) Unknown all is = is
-fails_with a r (Key.Fd f) Closed all is = is
-fails_with a r (Key.Fd f) (Held h flag) all is =
-    rw (or_left (has a.kinds (held_kind flag)) _ is, all) (and-false (has a.lacking (held_kind flag)))
+fails_with a r k c all is = grind (arith, all, is)
 
 -- the first of some cells that fails a test
 abbrev pub failing : (Cell → Bool) → List Cell → Cell
@@ -60,27 +45,14 @@ failing p (c ∷ cells) = if p c then failing p cells else c
 
 pub failing_fails : (p : Cell → Bool) (cells : List Cell) → list_all p cells ≡ false → p (failing p cells) ≡ false
 failing_fails p [] is = absurd cc
-failing_fails p (c ∷ cells) is = by (p c) refl (failing_fails p cells) is
-  where
-    by : (b : Bool) → p c ≡ b → (list_all p cells ≡ false → p (failing p cells) ≡ false) → (b && list_all p cells) ≡ false
-        → p (if b then failing p cells else c) ≡ false
-    by true e rest is = rest is
-    by false e rest is = e
+failing_fails p (c ∷ cells) is = grind (arith, is, failing_fails p cells)
 
 -- a test of the kind passes each cell where it passes one of each kind
 pub each_passes : (p : Cell → Bool) → ((r : ℕ) (flag : OnExec) → p (Held r flag) ≡ p (Held none flag))
     → list_all p each_kind ≡ true → (c : Cell) → p c ≡ true
-each_passes p alike all c = by c
-  where
-    at : (k : ℕ) → k < 5 → p (get_or each_kind k Closed) ≡ true
-    at k below = AllPass-from_list_all p each_kind all k Closed below
-
-    by : (c : Cell) → p c ≡ true
-    by (Held r Set) = alike r Set ∙ at 0 (omega arith)
-    by (Held r Clear) = alike r Clear ∙ at 1 (omega arith)
-    by (Held r Unsure) = alike r Unsure ∙ at 2 (omega arith)
-    by Unknown = at 3 (omega arith)
-    by Closed = at 4 (omega arith)
+each_passes p alike all (Held r flag) = grind (arith, alike r flag, all)
+each_passes p alike all Unknown = grind (arith, all)
+each_passes p alike all Closed = grind (arith, all)
 
 -- a test that some cell can pass has one that does: of a kind that passes, or one that holds no rights
 possible_passes : (f : ℕ) (a : Ask) → possible_at (Key.Fd f) a ≡ true → (c : Cell) × (passes a c ≡ true)
@@ -136,42 +108,25 @@ is_open ask certain possible = record {
 
 -- ---- in no state
 unheld : (kinds : Kinds) (flag : OnExec) → any_held kinds ≡ false → has kinds (held_kind flag) ≡ false
-unheld kinds Set is = (or_parts _ _ is).0
-unheld kinds Clear is = (or_parts _ _ (or_parts _ _ is).1).0
-unheld kinds Unsure is = (or_parts _ _ (or_parts _ _ is).1).1
+unheld kinds flag is = grind (arith, is)
 
 no_kind : (kinds : Kinds) (c : Cell) → any_kind kinds ≡ false → has_kind kinds c ≡ false
-no_kind kinds (Held r flag) is = unheld kinds flag (or_parts _ _ is).0
-no_kind kinds Unknown is = (or_parts _ _ (or_parts _ _ is).1).0
-no_kind kinds Closed is = (or_parts _ _ (or_parts _ _ is).1).1
+no_kind kinds c is = grind (arith, is, unheld kinds)
 
 -- a cell that lacks some rights is one that can pass where a test looks at them
 none_lacked : (a : Ask) (c : Cell) → (any_held a.lacking && not (has_all none a.rights)) ≡ false
     → (has_kind a.lacking c && lacks a.rights c) ≡ false
-none_lacked a Unknown is = and-false (has a.lacking 3)
-none_lacked a Closed is = and-false (has a.lacking 4)
-none_lacked a (Held r flag) is = elim (and_cases _ _ is) [
-  | inl none_held ↦ rw (unheld a.lacking flag none_held) refl
-  | inr all ↦
-      rw (not_true (not (has_all r a.rights)) (not (has_all none a.rights)) all (none_lacks r a.rights))
-      (and-false (has a.lacking (held_kind flag)))
-]
+none_lacked a c is = grind (arith, is, unheld a.lacking, none_lacks)
 
 pub never_passes : (p : ℕ) (k : Key) (a : Ask) → possible_at k a ≡ false → (s : State) → passes a (cells_of s p k) ≡ false
-never_passes p Key.Mode a is s = by (s.mode p)
-  where
-    by : (m : Mode) → passes a (mode_cell m) ≡ false
-    by Mode.Unsure = (or_parts _ _ is).0
-    by Inside = (or_parts _ _ (or_parts _ _ is).1).0
-    by Outside = (or_parts _ _ (or_parts _ _ is).1).1
+never_passes p Key.Mode a is s = grind (arith, is)
 never_passes p (Key.Fd f) a is s =
     rw (no_kind a.kinds (s.cell p f) (or_parts _ _ is).0) (none_lacked a (s.cell p f) (or_parts _ _ is).1)
 
 -- ---- in every state
 -- a test looks at the kind alone where no rights are lacked
 pub alike_sure : (a : Ask) (k : Key) (r : ℕ) (flag : OnExec) → is_sure a k (Held r flag) ≡ is_sure a k (Held none flag)
-alike_sure a Key.Mode r flag = refl
-alike_sure a (Key.Fd f) r flag = refl
+alike_sure a k r flag = grind arith
 
 pub certain_holds : (p : ℕ) (k : Key) (a : Ask) → certain_at k a ≡ true → (s : State) → passes a (cells_of s p k) ≡ true
 certain_holds p k a is s =

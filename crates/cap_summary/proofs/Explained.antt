@@ -1,17 +1,15 @@
 -- Which step of a trace is explained.
 use Rattle.cap_machine.specs.{Explain.explained_at}
-use Rattle.std.specs.Prelude.{◌≡◌, ◌+◌, ◌<◌, ◌≤◌, if◌then◌else◌, ◌∷◌, ◌++◌, ℕ, Bool, List, [], length, take, drop}
+use Rattle.std.specs.Prelude.{◌≡◌, ◌+◌, ◌<◌, ◌≤◌, ◌∷◌, ◌++◌, ℕ, List, [], length, take, drop}
 use Rattle.std.specs.Prelude.{get_or, Some, None, refl, reverse}
 use Rattle.cap_summary.specs.{Step, State, explained, explanation}
-use Rattle.cap_summary.proofs.{sym, ap, ◌∙◌, arith, length-append, eq-eqb, reverse-append, length-reverse}
-use Rattle.cap_summary.proofs.{take-append-drop, length-take-le, take_more, ne_eqb}
+use Rattle.cap_summary.proofs.{nat_tests, sym, ap, ◌∙◌, arith, length-append, reverse-append, length-reverse}
+use Rattle.cap_summary.proofs.{take-append-drop, length-take-le, take_more}
 
 -- a step that isn't at the position
 passed : (s : State) (step : Step) (history : List Step) (k : ℕ) → (k ≡ length history + 1 → ⊥)
     → explained_at s (step ∷ history) k ≡ explained_at s history k
-passed s step history k ne =
-    ap (λ (b : Bool). if b then Some (explained s history step) else explained_at s history k)
-    (ne_eqb k (length history + 1) ne)
+passed s step history k ne = grind (arith, nat_tests, ne)
 
 outside : (s : State) (history : List Step) (k : ℕ) → ((n : ℕ) → n < length history → k ≡ n + 1 → ⊥)
     → explained_at s history k ≡ None
@@ -35,9 +33,7 @@ explained_past s t k past = outside s (reverse t) k (λ n lt e. omega (arith, le
 
 newest : (s : State) (step : Step) (history : List Step) (k : ℕ) → k ≡ length history + 1
     → explained_at s (step ∷ history) k ≡ Some (explained s history step)
-newest s step history k e =
-    ap (λ (b : Bool). if b then Some (explained s history step) else explained_at s history k)
-    (eq-eqb k (length history + 1) e)
+newest s step history k e = grind (arith, nat_tests, e)
 
 pub explained_there : (s : State) (t : List Step) (k n : ℕ) (step : Step) → k ≡ n + 1 → n < length t
     → get_or t n step ≡ step → explanation s t k ≡ Some (explained s (reverse (take n t)) step)

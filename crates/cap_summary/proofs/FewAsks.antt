@@ -2,11 +2,10 @@
 use Rattle.std.proofs.{Math.Nat.mul_assoc}
 use Rattle.std.specs.Prelude.{◌≡◌, ◌+◌, ◌*◌, ◌^◌, ◌<◌, ◌≤◌, ◌∷◌, ℕ, List, [], length, map, true, refl, All}
 use Rattle.cap_summary.specs.{Names.has_cell, Names.has_key, declared.ask.Ask.Ask, declared.key.Key.Key}
-use Rattle.cap_summary.specs.Asks.{held_number, key_number, place, place_in_process, RisesFrom, Rises, AskWithin}
-use Rattle.cap_summary.specs.Asks.{AreWithin}
-use Rattle.cap_summary.specs.{Kept.is_one, Kept.these, Kept.room}
-use Rattle.cap_summary.proofs.{sym, ap, ◌∙◌, arith, nat_tests, length-map, All-head, All-tail, Bools.and_left}
-use Rattle.cap_summary.proofs.{Bools.and_right}
+use Rattle.cap_summary.specs.{Asks.held_number, Asks.key_number, Asks.place, Asks.place_in_process, Asks.RisesFrom}
+use Rattle.cap_summary.specs.{Asks.Rises, Asks.AskWithin, Asks.AreWithin, Kept.is_one, Kept.these, Kept.room}
+use Rattle.cap_summary.proofs.{sym, ap, ◌∙◌, arith, nat_tests, length-map, All-head, All-tail}
+use Rattle.cap_summary.proofs.Bools.{and_left, and_right}
 use Rattle.cap_summary.proofs.FewKeys.{all_of, among_all, among_mapped, count_all, count_each, count_from, count_taken}
 use Rattle.cap_summary.proofs.FewKeys.{in_second}
 

@@ -1,7 +1,7 @@
 -- How long a list is whose numbers strictly rise and are all among some numbers.
 use Rattle.std.proofs.{Math.Nat.add-mul, Math.Nat.one-mul}
-use Rattle.std.specs.Prelude.{◌≡◌, ◌+◌, ◌*◌, ◌≤◌, ◌∷◌, ◌++◌, ◌||◌, ℕ, eqb, List, [], length, map, Some, Bool, true}
-use Rattle.std.specs.Prelude.{false, cond, refl, is_some, nat_le}
+use Rattle.std.specs.Prelude.{◌≡◌, ◌+◌, ◌*◌, ◌≤◌, ◌∷◌, ◌++◌, ◌||◌, ℕ, eqb, List, [], length, map, true}
+use Rattle.std.specs.Prelude.{false, cond, is_some, nat_le}
 use Rattle.cap_summary.specs.{Kept.is_one, Sorted.found, Sorted.RisesFrom}
 use Rattle.cap_summary.proofs.{sym, ap, ◌∙◌, arith, subst, length-append, or-true, eqb-true, eq-eqb, list_any-append}
 use Rattle.cap_summary.proofs.{nat_tests, inl, inr, or_cases}
@@ -30,11 +30,7 @@ count_taken b k (n ∷ rest) le is = elim (or_cases (eqb n k) (is_one rest k) is
 -- a key that is found in the rest is found
 found_more : {V : Type 0} (k : ℕ) (v : V) (rest : List (ℕ × V)) (key : ℕ) → is_some (found rest key) ≡ true
     → is_some (found ((k, v) ∷ rest) key) ≡ true
-found_more k v rest key is = cases (eqb k key)
-  where
-    cases : (same : Bool) → is_some (cond same (Some v) (found rest key)) ≡ true
-    cases true = refl
-    cases false = is
+found_more k v rest key is = grind (arith, nat_tests, is)
 
 found_first : {V : Type 0} (k : ℕ) (v : V) (rest : List (ℕ × V)) → is_some (found ((k, v) ∷ rest) k) ≡ true
 found_first k v rest = grind (arith, nat_tests)

@@ -3,16 +3,15 @@ use Rattle.std.proofs.{Math.Nat.mul-le-mul_right}
 use Rattle.std.specs.Prelude.{◌≡◌, ◌+◌, ◌*◌, ◌<◌, ◌≤◌, ◌⊎◌, ◌∷◌, ◌++◌, ℕ, List, [], length, Bool, true, false, cond}
 use Rattle.std.specs.Prelude.{eqb, Option, Some, None, refl, IfSome, IfNone, is_some, nat_le, All}
 use Rattle.cap_summary.specs.{Step, Content.KeepsParts, Knows.Knows, Preconditions.IsSettled, declared.effect.Row.Row}
-use Rattle.cap_summary.specs.{declared.known.Known.Known, declared.node.Content.Content}
-use Rattle.cap_summary.specs.{declared.node.Content.TheVariants.Run, declared.node.Content.TheVariants.Both}
-use Rattle.cap_summary.specs.{Kept.is_one, Kept.these, Kept.room, LineAsks.refused, Kept.NameOrRefuseMany}
-use Rattle.cap_summary.specs.Kept.{limit, IsKept, IsWithin, IsLarge, ListsMany}
+use Rattle.cap_summary.specs.{declared.known.Known.Known, declared.node.Content.Content, LineAsks.refused}
+use Rattle.cap_summary.specs.declared.node.Content.TheVariants.{Run, Both}
+use Rattle.cap_summary.specs.Kept.{is_one, these, room, NameOrRefuseMany, limit, IsKept, IsWithin, IsLarge, ListsMany}
 use Rattle.cap_summary.specs.Names.{names_in, AreAmong, IsListedWithin, IsRowWithin, ListWithin, RowsWithin}
 use Rattle.cap_summary.specs.RowSizes.{rows_size, CellsRise, AllRise}
 use Rattle.cap_summary.specs.Sorted.{found, Rises, RisesFrom, KeysRise}
 use Rattle.cap_summary.proofs.{inl, inr, arith, eqb-true, eq-eqb, nat_tests, All-head, All-tail, FewAsks.few_asks}
-use Rattle.cap_summary.proofs.{FewKeys.few_keys, Knowing.refused_parts, SortedFound.found_below}
-use Rattle.cap_summary.proofs.{SortedFound.rises_again}
+use Rattle.cap_summary.proofs.{FewKeys.few_keys, Knowing.refused_parts}
+use Rattle.cap_summary.proofs.SortedFound.{found_below, rises_again}
 use Rattle.cap_summary.proofs.Naming.{effect_among, asks_among, first_among, second_among}
 
 -- ---- rows among these processes, which list these descriptors
@@ -20,8 +19,7 @@ use Rattle.cap_summary.proofs.Naming.{effect_among, asks_among, first_among, sec
 -- what holds of the value that is there
 of_some : {V : Type 0} (o : Option V) (P : V → Type 0) (b : Bool) → ((v : V) → P v → b ≡ true) → IfSome o P
     → is_some o ≡ true → b ≡ true
-of_some None P b so all is = absurd cc
-of_some (Some v) P b so all is = so v all
+of_some o P b so all is = grind (arith, so, all, is)
 
 rises : {V : Type 0} (entries : List (ℕ × V)) → KeysRise entries → Rises entries
 rises entries rise = rises_again 0 entries (λ i d lt. omega arith) rise
@@ -70,8 +68,7 @@ module _ (pids fds : List ℕ) where
 -- more than is kept, with few refusals, is more than 1,024 cells and modes give
 many_cells : (n rows asks refusals refused room : ℕ) → (limit n < rows) ⊎ (40000 < rows + (asks + refusals))
     → rows ≤ room → asks ≤ 8 * room → refusals ≤ refused → refused ≤ 30000 → 1024 < room
-many_cells n rows asks refusals refused room (inl large) few_rows few_asks some few = omega arith
-many_cells n rows asks refusals refused room (inr large) few_rows few_asks some few = omega arith
+many_cells n rows asks refusals refused room large few_rows few_asks some few = grind (arith, large, few_rows, few_asks, some, few)
 
 -- what is known of the steps is above the limit
 many_whole : (t : List Step) (known : Known) → Knows known t → IsSettled known.precondition.value

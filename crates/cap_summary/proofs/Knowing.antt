@@ -1,9 +1,9 @@
 -- What a summary says after one more step, or one more segment.
 use Rattle.cap_machine.specs.{History.turned, Code.Table.step_after}
 use Rattle.cap_machine.proofs.{Turns.ends_more}
-use Rattle.std.specs.Prelude.{◌≡◌, ◌∷◌, ◌++◌, ◌+◌, ◌<◌, ◌||◌, ◌≤◌, if◌then◌else◌, ℕ, List, [], false, length, map, refl}
+use Rattle.std.specs.Prelude.{◌≡◌, ◌∷◌, ◌++◌, ◌+◌, ◌<◌, ◌||◌, ◌≤◌, if◌then◌else◌, ℕ, List, [], false, length, map}
 use Rattle.std.specs.Prelude.{get_or, take}
-use Rattle.cap_summary.specs.{Rc, values, Step, LineEffect, State, requirement, Turn, kept, stays, turns, follows}
+use Rattle.cap_summary.specs.{Rc, values, Step, LineEffect, State, requirement, Turn, kept, stays}
 use Rattle.cap_summary.specs.{touch, turn, effect_touch, effect_turn, touched, ended, check, said, found_at, later}
 use Rattle.cap_summary.specs.{Asks.AreWithin, Composing.IsJoined, Effects.changed, LineAsks.is_refusal, LineAsks.refused, Keys.Cells}
 use Rattle.cap_summary.specs.{Keys.mode_cell, Keys.cells_of, Effects.LineLeaves, Effects.LeavesThenLine}
@@ -31,8 +31,7 @@ refused_parts [] u = omega arith
 refused_parts (step ∷ t) u = omega (arith, refused_parts t u)
 
 has_any-map : {X Y : Type 0} (f : X → Y) (xs : List X) → has_any (map f xs) ≡ has_any xs
-has_any-map f [] = refl
-has_any-map f (x ∷ xs) = refl
+has_any-map f xs = grind arith
 
 -- the cells after the steps, as one
 cells_after : (effect : Effect) (pre : Precondition) (t : List Step) → Says effect pre t → (s : State)
@@ -126,9 +125,7 @@ says_same effect pre new t says met possible asks few refusals = record {
 
 -- a mode is turned as its cell is
 turned_is : (t : Turn) (s : State) (p : ℕ) → turned_cell t (cells_of s) p ≡ mode_cell (turned t s.mode p)
-turned_is stays s p = refl
-turned_is (turns m) s p = refl
-turned_is (follows q) s p = refl
+turned_is t s p = grind arith
 
 module _ (step : Step) (line : LineEffect) (me : ℕ) (cells : (p f : ℕ) → effect_touch line me p f ≡ touch step p f)
     (modes : (p : ℕ) → effect_turn line me p ≡ turn step p) where

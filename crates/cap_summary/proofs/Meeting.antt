@@ -1,28 +1,14 @@
 -- Where something is found.
-use Rattle.std.specs.{declared.vec.Vec.Vec}
-use Rattle.std.specs.Prelude.{◌≡◌, ◌∷◌, ◌++◌, ◌||◌, ◌==◌, ◌+◌, ◌<◌, ◌≤◌, List, [], Bool, true, false, refl, ℕ}
-use Rattle.std.specs.Prelude.{length, get_or, not, All, take}
-use Rattle.cap_summary.specs.{list_any, State, Global, Effects.changed, Keys.Cells, Keys.cells_of}
-use Rattle.cap_summary.specs.{declared.ask.Ask.Ask, declared.effect.Effect.Effect}
-use Rattle.cap_summary.specs.{declared.precondition.Precondition.Precondition}
-use Rattle.cap_summary.specs.{declared.up_to_three.UpToThree.UpToThree}
+use Rattle.std.specs.declared.vec.Vec.{Vec}
+use Rattle.std.specs.Prelude.{◌≡◌, ◌∷◌, ◌++◌, ◌==◌, ◌+◌, ◌<◌, ◌≤◌, List, [], Bool, true, false, refl, ℕ, length}
+use Rattle.std.specs.Prelude.{get_or, not, All, take}
+use Rattle.cap_summary.specs.{list_any, State, Global, Effects.changed, Keys.Cells, Keys.cells_of, declared.ask.Ask.Ask}
+use Rattle.cap_summary.specs.{declared.effect.Effect.Effect, declared.precondition.Precondition.Precondition}
+use Rattle.cap_summary.specs.{declared.up_to_three.UpToThree.UpToThree, Names.Names, Names.has_cell, Names.EffectWithin}
 use Rattle.cap_summary.specs.Asks.{holds, any_holds, asks_of, IsOpen, AskWithin, AreWithin}
-use Rattle.cap_summary.specs.Names.{Names, has_cell, EffectWithin}
-use Rattle.cap_summary.specs.Preconditions.{asks_size, is_wrongful, is_met, RefusalIsOpen, IsPulledBack, IsWithMore}
-use Rattle.cap_summary.proofs.{ap, ◌∙◌, sym, arith, subst, eqb-true, length-append, All-head, All-push, or-false}
-use Rattle.cap_summary.proofs.{or-true, or_assoc, list_any-append, list_any_more, Bools.or_last}
-
--- with one more ask or refusal the asks, or the refusals, hold
-grouped : (certain asks refusals more : Bool) → (certain || (asks || (refusals || more)))
-    ≡ ((certain || (asks || refusals)) || more)
-grouped true asks refusals more = refl
-grouped false true refusals more = refl
-grouped false false refusals more = refl
-
-grouped_asks : (certain asks more refusals : Bool) → (certain || ((asks || more) || refusals))
-    ≡ ((certain || (asks || refusals)) || more)
-grouped_asks certain asks more refusals =
-    rw (or_last asks more refusals) (sym (or_assoc certain (asks || refusals) more))
+use Rattle.cap_summary.specs.Preconditions.{is_wrongful, is_met, RefusalIsOpen, IsPulledBack, IsWithMore}
+use Rattle.cap_summary.proofs.{nat_tests, ap, ◌∙◌, sym, arith, subst, length-append, All-head, All-push, or-false}
+use Rattle.cap_summary.proofs.{or-true, list_any-append, list_any_more}
 
 -- one of some asks holds in some state, where there are any and it depends on the state
 one_somewhere : (asks : List Ask) → All IsOpen asks → (length asks == 0) ≡ false
@@ -72,14 +58,7 @@ pub more_asks : (first : Effect) (pre : Precondition) (later ask : Ask) (asks : 
     → IsWithMore first (λ cells. holds cells later) (λ names. AskWithin (has_cell names) later) 1 0 pre
     (record pre { asks = asks })
 more_asks first pre later ask asks is can same named = record {
-  met = λ s. rw (
-    ← same s,
-    is,
-    list_any-append (holds (cells_of s)) pre.asks.items (ask ∷ []),
-    or-false (holds (cells_of s)
-        ask),
-  ) (grouped_asks pre.certain (any_holds (cells_of s) pre.asks.items) (holds (cells_of s) ask)
-      (list_any (is_wrongful (cells_of s)) pre.refusals.items));
+  met = λ s. rw (← same s, is, list_any-append (holds (cells_of s)) pre.asks.items (ask ∷ [])) (grind arith);
   possible = λ old. record { asks = rw is (All-push IsOpen pre.asks.items ask old.asks can); refusals = old.refusals };
   names = λ names effect within old. record {
     asks = rw is (All-push (AskWithin (has_cell names)) pre.asks.items ask old.asks (named names effect within));
@@ -99,10 +78,7 @@ pub next_more : {X : Type 0} (first : Effect) (p : Cells → X → Bool) (xs : L
 next_more first p xs i x all one size refusals more most a b c within is narrow some next = record {
   met = λ s.
       let test = p (changed first (cells_of s)) in
-      next.met s ∙ ap (λ r. r || test x) (some.met s)
-      ∙ or_assoc (is_met (cells_of s) a) (list_any test (take i xs)) (test x)
-      ∙ ap (λ r. is_met (cells_of s) a || r) (ap (λ y. list_any test (take i xs) || test y) is
-      ∙ sym (list_any_more test xs i x within));
+      rw (next.met s, some.met s, list_any_more test xs i x within, ← is) (grind arith);
   possible = λ old. next.possible (some.possible old);
   names = λ names effect named old. next.names names effect (narrow names named) (some.names names effect named old);
   few = omega (arith, some.few, next.few);
@@ -120,13 +96,7 @@ module _ (first : Effect) (pre : Precondition) (later kept : UpToThree)
       → IsWithMore first (λ cells. is_wrongful cells later) (λ names. AreWithin (has_cell names) (asks_of later)) 1 1 pre
       (record pre { refusals = refusals })
   one_refusal refusals is some none = record {
-    met = λ s. rw (
-      same s,
-      is,
-      list_any-append (is_wrongful (cells_of s)) pre.refusals.items (kept ∷ []),
-      or-false (is_wrongful (cells_of s) kept),
-    ) (grouped pre.certain (any_holds (cells_of s) pre.asks.items)
-        (list_any (is_wrongful (cells_of s)) pre.refusals.items) (is_wrongful (cells_of s) kept));
+    met = λ s. rw (same s, is, list_any-append (is_wrongful (cells_of s)) pre.refusals.items (kept ∷ [])) (grind arith);
     possible = λ old. record {
       asks = old.asks;
       refusals = rw is (All-push RefusalIsOpen pre.refusals.items kept old.refusals refusal_open);
@@ -157,7 +127,7 @@ module _ (first : Effect) (pre : Precondition) (later kept : UpToThree)
     where
       nothing : (asks : List Ask) → (length asks == 0) ≡ true → any_holds (cells_of s) asks ≡ false
       nothing [] is = refl
-      nothing (ask ∷ asks) is = let none : length (ask ∷ asks) ≡ 0 = eqb-true _ _ is in absurd (omega arith)
+      nothing (ask ∷ asks) is = grind (arith, nat_tests, is)
 
 -- what holds of each holds of one of them
 pub read_all : {X : Type 0} (P : X → Type 0) (xs : List X) (i : ℕ) (x : X) → i < length xs → x ≡ get_or xs i x

@@ -1,48 +1,26 @@
 -- Asks of a later segment, pulled back through the effect of a first one.
 use Rattle.std.specs.{declared.vec.Vec.Vec}
-use Rattle.std.specs.Prelude.{◌≡◌, ◌∷◌, ◌++◌, ◌||◌, ◌+◌, ◌<◌, ◌≤◌, if◌then◌else◌, List, [], Bool, true, false, ℕ}
-use Rattle.std.specs.Prelude.{length, get_or, take, drop, refl, All, Option, Some, None, is_none, not}
-use Rattle.cap_summary.specs.{list_any, State, option_map_or, Cell, Closed, Global, Keys.Cells, Keys.cells_of}
-use Rattle.cap_summary.specs.{Effects.is_own, Effects.base_leaves, Effects.row_leaves, Sorted.found, Values.read}
-use Rattle.cap_summary.specs.{declared.ask.Ask.Ask, declared.base.DefaultCells.DefaultCells}
+use Rattle.std.specs.Prelude.{◌≡◌, ◌∷◌, ◌++◌, ◌||◌, ◌+◌, ◌<◌, List, [], true, false, ℕ}
+use Rattle.std.specs.Prelude.{length, get_or, take, drop, refl, All, Option, Some, None}
+use Rattle.cap_summary.specs.{list_any, State, Global, Keys.Cells, Keys.cells_of}
+use Rattle.cap_summary.specs.{Effects.row_leaves, Sorted.found}
+use Rattle.cap_summary.specs.{declared.ask.Ask.Ask}
 use Rattle.cap_summary.specs.{declared.effect.Effect.Effect, declared.effect.Row.Row, declared.key.Key.Key}
-use Rattle.cap_summary.specs.{declared.precondition.Precondition.Precondition, declared.value.Value.Value}
+use Rattle.cap_summary.specs.{declared.precondition.Precondition.Precondition}
 use Rattle.cap_summary.specs.{declared.up_to_three.UpToThree.UpToThree}
 use Rattle.cap_summary.specs.Asks.{place, holds, any_holds, IsOpen, AskWithin, Rises, IsUnionOf, IsUnion, Within, Open}
-use Rattle.cap_summary.specs.Effects.{is_from, others_cell, base_cell, row_cell, changed}
+use Rattle.cap_summary.specs.Effects.{row_cell, changed}
 use Rattle.cap_summary.specs.Names.{Names, has_cell, EffectWithin, RefusalsWithin, PreWithin}
 use Rattle.cap_summary.specs.Preconditions.{is_met, is_wrongful, IsPulledBack, AreAskedByBoth, IsAskedByOne, IsAskedByBoth}
 use Rattle.cap_summary.specs.Preconditions.{IsPossible, IsSettled, IsWithMore, asks_size}
 use Rattle.cap_summary.proofs.{sym, ap, ◌∙◌, subst, arith, length-append, take_more, list_any-append, All-push}
-use Rattle.cap_summary.proofs.{All-head, or-false, or-true, or_assoc, or_comm}
-use Rattle.cap_summary.proofs.Bools.{and_left, and_right, or_last, or_crossed}
+use Rattle.cap_summary.proofs.{All-head, or-false, or_comm}
 use Rattle.cap_summary.proofs.Uniting.{all_left, all_right, rises_put, rises_without, drop_here}
 
 -- ---- a cell that the first segment leaves
-others_left : (cells : Cells) (p f : ℕ) (o : DefaultCells) → is_own o ≡ true → others_cell cells p o f
-    ≡ cells p (Key.Fd f)
-others_left cells p f DefaultCells.Own is = refl
-others_left cells p f DefaultCells.Unknown is = absurd cc
-others_left cells p f DefaultCells.Closed is = absurd cc
-others_left cells p f (DefaultCells.Of q passing) is = absurd cc
-
-not_read : (cells : Cells) (v : Option Value) (c : Cell) → is_none v ≡ true → option_map_or (read cells) v c ≡ c
-not_read cells None c is = refl
-not_read cells (Some v) c is = absurd cc
-
-closed_not : (b : Bool) (c d : Cell) → not b ≡ true → c ≡ d → (if b then Closed else c) ≡ d
-closed_not true c d is same = absurd cc
-closed_not false c d is same = same
-
 pub row_left : (cells : Cells) (p : ℕ) (row : Row) (k : Key) → row_leaves row k ≡ true → row_cell cells p row k ≡ cells p k
-row_left cells p row Key.Mode is = not_read cells row.mode (cells p Key.Mode) is
-row_left cells p row (Key.Fd f) is =
-    let unlisted = and_left (is_none (found row.cells f)) (base_leaves row.base f) is in
-    let base = and_right (is_none (found row.cells f)) (base_leaves row.base f) is in
-    not_read cells (found row.cells f) (base_cell cells p row.base f) unlisted
-    ∙ closed_not (is_from row.base.closed_from f) (others_cell cells p row.base.others f) (cells p (Key.Fd f))
-    (and_right (is_own row.base.others) (not (is_from row.base.closed_from f)) base)
-    (others_left cells p f row.base.others (and_left (is_own row.base.others) (not (is_from row.base.closed_from f)) base))
+row_left cells p row Key.Mode is = grind (arith, is)
+row_left cells p row (Key.Fd f) is = grind (arith, is)
 
 -- ---- asks at the places that they had, before those that are left: one more, which is left out, or becomes this one
 module _ (asks kept : List Ask) (i : ℕ) (ask : Ask) (within : i < length asks) (is : ask ≡ get_or asks i ask)
@@ -87,10 +65,7 @@ module _ (first : Effect) (asks : List Ask) (i : ℕ) (ask : Ask) (kept moved : 
   pub pulled_never : ((s : State) → holds (changed first (cells_of s)) ask ≡ false)
       → IsPulledBack first (take (i + 1) asks) kept moved
   pulled_never never = record {
-    holds = λ s. so_far.holds s
-        ∙ sym (or-false (any_holds (changed first (cells_of s)) (take i asks)))
-        ∙ ap (λ r. any_holds (changed first (cells_of s)) (take i asks) || r) (sym (never s))
-        ∙ sym (met_more (changed first (cells_of s)));
+    holds = λ s. rw (met_more (changed first (cells_of s)), never s, ← so_far.holds s) (grind arith);
     can = λ all. so_far.can (parts IsOpen all).0;
     names = λ names effect all. so_far.names names effect (parts (AskWithin (has_cell names)) all).0;
     few = omega (arith, counted, so_far.few);
@@ -101,20 +76,14 @@ module _ (first : Effect) (asks : List Ask) (i : ℕ) (ask : Ask) (kept moved : 
       (same : (s : State) → holds (cells_of s) before ≡ holds (changed first (cells_of s)) ask)
       (named : (names : Names) → EffectWithin names first → AskWithin (has_cell names) ask
       → AskWithin (has_cell names) before) where
-    met_before : (s : State) → ((any_holds (cells_of s) kept || any_holds (cells_of s) moved)
-        || (holds (cells_of s) before || false)) ≡ any_holds (changed first (cells_of s)) (take (i + 1) asks)
-    met_before s =
-        ap (λ r. (any_holds (cells_of s) kept || any_holds (cells_of s) moved) || r)
-        (or-false (holds (cells_of s) before) ∙ same s)
-        ∙ ap (λ r. r || holds (changed first (cells_of s)) ask) (so_far.holds s)
-        ∙ sym (met_more (changed first (cells_of s)))
-
     pub pulled_kept : IsPulledBack first (take (i + 1) asks) (kept ++ before ∷ []) moved
     pulled_kept = record {
-      holds = λ s.
-          ap (λ r. r || any_holds (cells_of s) moved) (list_any-append (holds (cells_of s)) kept (before ∷ []))
-          ∙ or_last (any_holds (cells_of s) kept) (holds (cells_of s) before || false) (any_holds (cells_of s) moved)
-          ∙ met_before s;
+      holds = λ s. rw (
+        met_more (changed first (cells_of s)),
+        list_any-append (holds (cells_of s)) kept (before ∷ []),
+        ← so_far.holds s,
+        ← same s,
+      ) (grind arith);
       can = λ all.
           let two = parts IsOpen all in
           let old = so_far.can two.0 in
@@ -176,10 +145,6 @@ always_asked first own later both always settled possible within nothing found =
   refusals = omega (arith, nothing);
 }
 
--- the asks of both, or the refusals of one of them
-met_apart : (x y r q : Bool) → (((x || y) || r) || q) ≡ ((x || r) || (y || q))
-met_apart x y r q = or_assoc (x || y) r q ∙ or_crossed x y r q
-
 -- the first segment's refusals beside the asks of both, and then the refusals of the later one
 module _ (first : Effect) (own later before new : Precondition) (refusals : List UpToThree)
     (own_open : own.certain ≡ false) (later_open : later.certain ≡ false) (before_open : before.certain ≡ false)
@@ -190,10 +155,7 @@ module _ (first : Effect) (own later before new : Precondition) (refusals : List
   pub met_joined : (s : State) → is_met (cells_of s) new
       ≡ (is_met (cells_of s) own || is_met (changed first (cells_of s)) later)
   met_joined s = with.met s
-      ∙ rw (asked.holds s, own_open, later_open, before_open, same, theirs) (met_apart
-      (any_holds (cells_of s) own.asks.items) (any_holds (changed first (cells_of s)) later.asks.items)
-      (list_any (is_wrongful (cells_of s)) own.refusals.items)
-      (list_any (is_wrongful (changed first (cells_of s))) later.refusals.items))
+      ∙ rw (asked.holds s, own_open, later_open, before_open, same, theirs) (grind arith)
 
   pub asked_joined : new.certain ≡ false → new.asks ≡ before.asks → IsAskedByBoth first own later new
   asked_joined new_open asks = record {
@@ -220,13 +182,4 @@ module _ (first : Effect) (own later before new : Precondition) (refusals : List
 pub met_by_asks : (first : Effect) (own later : Precondition) (s : State)
     → (any_holds (cells_of s) own.asks.items || any_holds (changed first (cells_of s)) later.asks.items) ≡ true
     → (is_met (cells_of s) own || is_met (changed first (cells_of s)) later) ≡ true
-met_by_asks first own later s one = cases own.certain later.certain (any_holds (cells_of s) own.asks.items)
-    (any_holds (changed first (cells_of s)) later.asks.items) (list_any (is_wrongful (cells_of s)) own.refusals.items)
-    (list_any (is_wrongful (changed first (cells_of s))) later.refusals.items) one
-  where
-    cases : (c d x y r q : Bool) → (x || y) ≡ true → ((c || (x || r)) || (d || (y || q))) ≡ true
-    cases true d x y r q is = refl
-    cases false d true y r q is = refl
-    cases false true false y r q is = or-true r
-    cases false false false true r q is = or-true r
-    cases false false false false r q is = absurd cc
+met_by_asks first own later s one = grind (arith, one)

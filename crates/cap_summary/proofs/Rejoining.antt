@@ -6,7 +6,7 @@ use Rattle.cap_summary.specs.{declared.precondition.Precondition.Precondition}
 use Rattle.cap_summary.specs.Composing.{IsJoined, IsComposedSo, IsJoinedEffect, AreAlike, KeepsEffect}
 use Rattle.cap_summary.specs.Names.{Names, EffectWithin, PreWithin}
 use Rattle.cap_summary.specs.Preconditions.{is_met, IsPossible, IsSamePrecondition, IsAskedByBoth}
-use Rattle.cap_summary.proofs.{sym, ap, ◌∙◌}
+use Rattle.cap_summary.proofs.{ap, ◌∙◌, arith}
 
 same_cells : (a b : Effect) → a.rows ≡ b.rows → (cells : Cells) → changed a cells ≡ changed b cells
 same_cells a b same cells = ap (λ rows. λ p k. cell_in cells (found rows p) p k) same
@@ -15,8 +15,7 @@ named_too : (a b : Effect) → a.rows ≡ b.rows → (names : Names) → EffectW
 named_too a b same names within = rw same within
 
 pub keeps_none : (side : Side) (similarity : Similarity) → similarity.precondition ≡ false → KeepsEffect side similarity
-keeps_none Left similarity none = λ is. absurd (let wrong : false ≡ true = sym none ∙ is in cc)
-keeps_none Right similarity none = tt
+keeps_none side similarity none = grind (arith, none)
 
 -- the same effect in the first place, and in the second
 first_effect : (was first later old : Effect) → was.rows ≡ first.rows → IsJoinedEffect was later old
@@ -68,6 +67,10 @@ second_asks first own was later old same asked = record {
   few = rw (same.asks, same.refusals) at asked.few;
   refusals = rw same.refusals at asked.refusals;
 }
+
+-- what is seen of the part on a side is that of the two that is on this side
+pub part_seen : {X Y : Type 0} (see : X → Y) (side : Side) (a b : X) → see (part_at side a b) ≡ part_at side (see a) (see b)
+part_seen see side a b = grind arith
 
 -- the effect of the old whole is that of the new one
 pub rejoined_effect : (side : Side) (first second was old : Known) (kept : Similarity)

@@ -4,13 +4,13 @@ use Rattle.std.proofs.{lemmas.Bool.lt-leb, lemmas.List.Elements.filter-append, l
 use Rattle.std.proofs.{lemmas.List.Filters.length-filter_both}
 use Rattle.cap_machine.proofs.{Positions.positions_within}
 use Rattle.std.specs.Prelude.{◌≡◌, ◌+◌, ◌<◌, ◌≤◌, ◌∷◌, ◌++◌, ◌&&◌, ◌⊎◌, ◌-◌, ◌*◌, ◌/◌, ℕ, List, [], Bool, true, false}
-use Rattle.std.specs.Prelude.{cond}
-use Rattle.std.specs.Prelude.{length, map, take, drop, get_or, refl, All, filter, nat_le, not}
+use Rattle.std.specs.Prelude.{cond, length, map, take, drop, get_or, refl, All, filter, nat_le, not}
 use Rattle.cap_summary.specs.{Step, Found, Finding, State, ended, check, said, found_at, later, LineAsks.has_any}
-use Rattle.cap_summary.specs.Positions.{is_at, within, AllOrMany}
+use Rattle.cap_summary.specs.{declared.judging.Asked.Asked}
+use Rattle.cap_summary.specs.Positions.{is_at, within, said_in, found_in, AllOrMany}
 use Rattle.cap_summary.proofs.{sym, ap, ◌∙◌, append_assoc, arith, inl, inr, length-append, map-append, append-nil}
 use Rattle.cap_summary.proofs.{length-map, length-take-le, take_all, take_more, take-append-drop, All-head, All-tail}
-use Rattle.cap_summary.proofs.{cases_lt, and-false, checks_in_turn, checks_more}
+use Rattle.cap_summary.proofs.{cases_lt, and-false, checks_in_turn}
 
 later-later : (m n : ℕ) (xs : List Found) → map (later m) (map (later n) xs) ≡ map (later (m + n)) xs
 later-later m n [] = refl
@@ -22,65 +22,41 @@ later-at : (n i : ℕ) (xs : List Finding) → map (later n) (map (found_at i) x
 later-at n i [] = refl
 later-at n i (x ∷ xs) = ap (λ r. found_at (n + i) x ∷ r) (later-at n i xs)
 
-later_parts : (s : State) (t u : List Step) (at : ℕ) → map (later at) (check s (t ++ u))
-    ≡ map (later at) (check s t) ++ map (later (at + length t)) (check (ended s t) u)
-later_parts s t u at =
-    ap (map (later at)) (checks_in_turn s t u)
-    ∙ map-append (later at) (check s t) (map (later (length t)) (check (ended s t) u))
-    ∙ ap (λ r. map (later at) (check s t) ++ r) (later-later at (length t) (check (ended s t) u))
+-- what is found in two segments, after what was found before
+pub found_all : (asked : Asked) (at n : ℕ) (s : State) (t u : List Step) (old : List Found) → n ≡ length t
+    → old ++ found_in asked at s (t ++ u) ≡ (old ++ found_in asked at s t) ++ found_in asked (at + n) (ended s t) u
+found_all asked at n s t u old len =
+    let first : List Found = check s t in
+    let second : List Found = check (ended s t) u in
+    rw (
+      len,
+      checks_in_turn s t u,
+      map-append (later at) first (map (later (length t)) second),
+      later-later at (length t) second,
+      filter-append (is_at asked.from asked.to) (map (later at) first) (map (later (at + length t)) second),
+    )
+    (sym (append_assoc old (found_in asked at s t) (found_in asked (at + length t) (ended s t) u)))
 
--- what was found in a segment, and then in what follows it
-pub found_parts : (s : State) (t u : List Step) (at n from to : ℕ) (old first all : List Found) → n ≡ length t →
-    first ≡ old ++ within from to (map (later at) (check s t))
-    → all ≡ first ++ within from to (map (later (at + n)) (check (ended s t) u)) →
-    all ≡ old ++ within from to (map (later at) (check s (t ++ u)))
-found_parts s t u at n from to old first all len one two =
-    two
-    ∙ ap (λ r. r ++ within from to (map (later (at + n)) (check (ended s t) u))) one
-    ∙ ap (λ m. (old ++ within from to (map (later at) (check s t)))
-    ++ within from to (map (later (at + m)) (check (ended s t) u))) len
-    ∙ append_assoc old (within from to (map (later at) (check s t)))
-    (within from to (map (later (at + length t)) (check (ended s t) u)))
-    ∙ ap (λ r. old ++ r) (sym (filter-append (is_at from to) (map (later at) (check s t))
-    (map (later (at + length t)) (check (ended s t) u))))
-    ∙ ap (λ r. old ++ within from to r) (sym (later_parts s t u at))
+pub found_parts : (asked : Asked) (at n : ℕ) (s : State) (t u : List Step) (old first all : List Found) → n ≡ length t
+    → first ≡ old ++ found_in asked at s t → all ≡ first ++ found_in asked (at + n) (ended s t) u
+    → all ≡ old ++ found_in asked at s (t ++ u)
+found_parts asked at n s t u old first all len one two = two
+    ∙ ap (λ r. r ++ found_in asked (at + n) (ended s t) u) one ∙ sym (found_all asked at n s t u old len)
 
--- nothing that is found in the first part is too much for both
-among_parts : (s : State) (t u : List Step) (at from to : ℕ) (old : List Found)
-    → length (old ++ within from to (map (later at) (check s t)))
-    ≤ length (old ++ within from to (map (later at) (check s (t ++ u))))
-among_parts s t u at from to old =
-    let first : List Found = old ++ within from to (map (later at) (check s t)) in
-    let second : List Found = within from to (map (later (at + length t)) (check (ended s t) u)) in
-    let both : first ++ second ≡ old ++ within from to (map (later at) (check s (t ++ u))) =
-    found_parts s t u at (length t) from to old first (first ++ second) refl refl refl in
-    omega (arith, ap length both, length-append first second)
+pub one_found : (asked : Asked) (at : ℕ) (s : State) (step : Step)
+    → said_in asked (at + 1) (said step s) ≡ found_in asked at s (step ∷ [])
+one_found asked at s step = ap (within asked.from asked.to) (sym (later-at at 1 (said step s)))
 
 pub not_many : (most : ℕ) (found all : List Found) → AllOrMany most found all → length found ≤ most → found ≡ all
-not_many most found all (inl is) few = is
-not_many most found all (inr are) few = absurd (omega (arith, are.many))
+not_many most found all is few = grind (arith, is, few)
 
 -- what stopped in the first part
-pub stopped : (most : ℕ) (s : State) (t u : List Step) (at from to : ℕ) (old found : List Found)
-    → AllOrMany most found (old ++ within from to (map (later at) (check s t))) → most < length found
-    → AllOrMany most found (old ++ within from to (map (later at) (check s (t ++ u))))
-stopped most s t u at from to old found (inl is) many =
-    inr (record { many = many; among = omega (arith, ap length is, among_parts s t u at from to old) })
-stopped most s t u at from to old found (inr are) many =
-    inr (record { many = many; among = omega (arith, are.among, among_parts s t u at from to old) })
-
--- all of the first part, and all or many of both
-pub parts_or_many : (most : ℕ) (s : State) (t u : List Step) (at n from to : ℕ) (old first all : List Found)
-    → n ≡ length t → first ≡ old ++ within from to (map (later at) (check s t))
-    → AllOrMany most all (first ++ within from to (map (later (at + n)) (check (ended s t) u)))
-    → AllOrMany most all (old ++ within from to (map (later at) (check s (t ++ u))))
-parts_or_many most s t u at n from to old first all len one (inl two) =
-    inl (found_parts s t u at n from to old first all len one two)
-parts_or_many most s t u at n from to old first all len one (inr are) =
-    let second : List Found = within from to (map (later (at + n)) (check (ended s t) u)) in
-    let both : first ++ second ≡ old ++ within from to (map (later at) (check s (t ++ u))) =
-    found_parts s t u at n from to old first (first ++ second) len one refl in
-    inr (record { many = are.many; among = omega (arith, are.among, ap length both) })
+pub stopped : (most : ℕ) (found first second : List Found) → AllOrMany most found first → most < length found
+    → AllOrMany most found (first ++ second)
+stopped most found first second (inl is) many =
+    inr (record { many = many; among = omega (arith, ap length is, length-append first second) })
+stopped most found first second (inr are) many =
+    inr (record { many = many; among = omega (arith, are.among, length-append first second) })
 
 -- how many are found in two parts, and that some are
 pub many_parts : (s : State) (t u : List Step)
@@ -91,25 +67,7 @@ many_parts s t u =
     ∙ ap (λ n. length (check s t) + n) (length-map second (later (length t)))
 
 pub some_found : (xs : List Found) → has_any xs ≡ true → 0 < length xs
-some_found [] is = absurd cc
-some_found (x ∷ xs) is = omega arith
-
--- what was found in a step, and then in what follows it
-pub found_step : (s : State) (l : Step) (u : List Step) (at from to : ℕ) (old first all : List Found) →
-    first ≡ old ++ within from to (map (found_at (at + 1)) (said l s))
-    → all ≡ first ++ within from to (map (later (at + 1)) (check (ended s (l ∷ [])) u)) →
-    all ≡ old ++ within from to (map (later at) (check s (l ∷ u)))
-found_step s l u at from to old first all one two =
-    found_parts s (l ∷ []) u at 1 from to old first all refl
-    (one ∙ ap (λ r. old ++ within from to r) (sym (later-at at 1 (said l s)))) two
-
--- what was found before a step, and then in the step
-pub found_more : (s : State) (t : List Step) (l : Step) (at n from to : ℕ) (old first all : List Found) → n ≡ length t
-    → first ≡ old ++ within from to (map (later at) (check s t))
-    → all ≡ first ++ within from to (map (found_at (at + n + 1)) (said l (ended s t)))
-    → all ≡ old ++ within from to (map (later at) (check s (t ++ l ∷ [])))
-found_more s t l at n from to old first all len one two = found_parts s t (l ∷ []) at n from to old first all len one
-    (two ∙ ap (λ r. first ++ within from to r) (sym (later-at (at + n) 1 (said l (ended s t)))))
+some_found xs is = grind (arith, is)
 
 -- findings stand at positions from 1
 abbrev IsBelow : ℕ → Found → Type 0
@@ -125,20 +83,21 @@ alike p false (x ∷ xs) all = rw (All-head (λ y. p y ≡ false) x xs all)
     (alike p false xs (All-tail (λ y. p y ≡ false) x xs all))
 
 -- nothing of a segment stands at positions before it or after it
-not_within : (from to at n : ℕ) (xs : List Found) → All (IsBelow n) xs → (at + n < from) ⊎ (to ≤ at)
-    → within from to (map (later at) xs) ≡ []
-not_within from to at n xs all out = alike (is_at from to) false (map (later at) xs)
-    (All-map (λ x. is_at from to x ≡ false) (later at) xs (λ k d lt. by (get_or xs k d).at (all k d lt) out))
+not_within : (asked : Asked) (at : ℕ) (s : State) (t : List Step) → (at + length t < asked.from) ⊎ (asked.to ≤ at)
+    → found_in asked at s t ≡ []
+not_within asked at s t out = alike (is_at asked.from asked.to) false (map (later at) (check s t))
+    (All-map (λ x. is_at asked.from asked.to x ≡ false) (later at) (check s t)
+    (λ k d lt. by (get_or (check s t) k d).at (positions_within s t k d lt) out))
   where
-    by : (i : ℕ) → (1 ≤ i) × (i ≤ n) → (at + n < from) ⊎ (to ≤ at)
-        → (nat_le from (at + i) && nat_le (at + i) to) ≡ false
-    by i is (inl before) = rw (lt-leb from (at + i) (omega (arith, is.1))) refl
-    by i is (inr beyond) = rw (lt-leb (at + i) to (omega (arith, is.0))) (and-false (nat_le from (at + i)))
+    by : (i : ℕ) → (1 ≤ i) × (i ≤ length t) → (at + length t < asked.from) ⊎ (asked.to ≤ at)
+        → (nat_le asked.from (at + i) && nat_le (at + i) asked.to) ≡ false
+    by i is (inl before) = rw (lt-leb asked.from (at + i) (omega (arith, is.1))) refl
+    by i is (inr beyond) = rw (lt-leb (at + i) asked.to (omega (arith, is.0))) (and-false (nat_le asked.from (at + i)))
 
-pub found_outside : (s : State) (t : List Step) (at from to : ℕ) (old : List Found)
-    → (at + length t < from) ⊎ (to ≤ at) → old ≡ old ++ within from to (map (later at) (check s t))
-found_outside s t at from to old out = sym (append-nil old) ∙ ap (λ (r : List Found). old ++ r)
-    (sym (not_within from to at (length t) (check s t) (positions_within s t) out))
+pub found_outside : (asked : Asked) (at : ℕ) (s : State) (t : List Step) (old : List Found)
+    → (at + length t < asked.from) ⊎ (asked.to ≤ at) → old ≡ old ++ found_in asked at s t
+found_outside asked at s t old out = sym (append-nil old) ∙ ap (λ (r : List Found). old ++ r)
+    (sym (not_within asked at s t out))
 
 -- what is said of one step, where its position is asked for and where not
 pub said_at : (from to at : ℕ) (xs : List Finding) (asked : Bool) → asked ≡ (nat_le from at && nat_le at to)
@@ -157,7 +116,7 @@ pub asked_for : (from to at : ℕ) (xs : List Finding) (old all : List Found) (a
 asked_for from to at xs old all asked is asks found = found
     ∙ ap (λ r. old ++ r) (sym (said_at from to at xs asked is ∙ ap (λ b. cond b (map (found_at at) xs) []) asks))
 
-later-none : (xs : List Found) → map (later 0) xs ≡ xs
+pub later-none : (xs : List Found) → map (later 0) xs ≡ xs
 later-none [] = refl
 later-none (x ∷ xs) =
     let zero : 0 + x.at ≡ x.at = omega arith in
@@ -165,9 +124,8 @@ later-none (x ∷ xs) =
     ∙ ap (λ (r : List Found). x ∷ r) (later-none xs)
 
 -- what is found from the first position on
-pub found_in_order : (s : State) (t : List Step) (from to : ℕ) (all : List Found)
-    → all ≡ within from to (map (later 0) (check s t)) → all ≡ within from to (check s t)
-found_in_order s t from to all is = is ∙ ap (within from to) (later-none (check s t))
+pub from_first : (asked : Asked) (s : State) (t : List Step) → found_in asked 0 s t ≡ within asked.from asked.to (check s t)
+from_first asked s t = ap (within asked.from asked.to) (later-none (check s t))
 
 -- a range of positions that has them all
 pub found_whole : (s : State) (t : List Step) (to : ℕ) → length t ≤ to → within 1 to (check s t) ≡ check s t
@@ -175,66 +133,43 @@ found_whole s t to long = alike (is_at 1 to) true (check s t)
     (λ k d lt. let is : IsBelow (length t) (get_or (check s t) k d) = positions_within s t k d lt in
     rw (le-leb 1 _ is.0, le-leb (get_or (check s t) k d).at to (omega (arith, is.1))) refl)
 
--- what is found from the first position on, or many of it
-pub all_or_many : (most : ℕ) (s : State) (t : List Step) (from to : ℕ) (found : List Found)
-    → AllOrMany most found (within from to (map (later 0) (check s t)))
-    → AllOrMany most found (within from to (check s t))
-all_or_many most s t from to found is = rw (later-none (check s t)) at is
-
 -- the first steps are enough, up to the last position that is asked for
-pub found_in_first : (s : State) (t : List Step) (n at from to : ℕ) → (n < length t → to ≤ at + n)
-    → within from to (map (later at) (check s (take n t))) ≡ within from to (map (later at) (check s t))
-found_in_first s t n at from to beyond = elim (cases_lt n (length t)) [
+pub found_in_first : (asked : Asked) (at n : ℕ) (s : State) (t : List Step) → (n < length t → asked.to ≤ at + n)
+    → found_in asked at s (take n t) ≡ found_in asked at s t
+found_in_first asked at n s t beyond = elim (cases_lt n (length t)) [
   | inl short ↦
-      let a : List Step = take n t in
-      let b : List Step = drop n t in
-      let first : List Found = within from to (map (later at) (check s a)) in
-      found_parts s a b at n from to [] first first (sym (length-take-le n t (omega arith))) refl
-      (found_outside (ended s a) b (at + n) from to first (inr (beyond short)))
-      ∙ ap (λ (r : List Step). within from to (map (later at) (check s r))) (take-append-drop n t)
-  | inr long ↦ ap (λ (r : List Step). within from to (map (later at) (check s r))) (take_all n t long)
+      found_outside asked (at + n) (ended s (take n t)) (drop n t) (found_in asked at s (take n t)) (inr (beyond short))
+      ∙ sym (found_all asked at n s (take n t) (drop n t) [] (sym (length-take-le n t (omega arith))))
+      ∙ ap (found_in asked at s) (take-append-drop n t)
+  | inr long ↦ ap (found_in asked at s) (take_all n t long)
 ]
 
-pub found_upto_last : (s : State) (t : List Step) (n from to : ℕ) (found : List Found) → (n < length t → to ≤ n)
-    → found ≡ within from to (check s (take n t)) → found ≡ within from to (check s t)
-found_upto_last s t n from to found beyond is =
-    is ∙ rw (later-none (check s (take n t)), later-none (check s t))
-    at (found_in_first s t n 0 from to (λ short. omega (arith, beyond short)))
-
 -- nothing stands before the first position that is asked for
-pub none_before_first : (s : State) (t : List Step) (from to : ℕ) → [] ≡ within from to (check s (take (from - 1) t))
-none_before_first s t from to = elim (cases_lt (from - 1) from) [
-  | inl before ↦ found_in_order s (take (from - 1) t) from to []
-      (found_outside s (take (from - 1) t) 0 from to [] (inl (omega (arith, length-take (from - 1) t))))
-  | inr none ↦
-      let zero : from - 1 ≡ 0 = omega arith in
-      ap (λ (n : ℕ). within from to (check s (take n t))) (sym zero)
+pub none_before_first : (asked : Asked) (s : State) (t : List Step) → [] ≡ found_in asked 0 s (take (asked.from - 1) t)
+none_before_first asked s t = elim (cases_lt (asked.from - 1) asked.from) [
+  | inl before ↦ found_outside asked 0 s (take (asked.from - 1) t) []
+      (inl (omega (arith, length-take (asked.from - 1) t)))
+  | inr none ↦ let zero : asked.from - 1 ≡ 0 = omega arith in
+      ap (λ (n : ℕ). found_in asked 0 s (take n t)) (sym zero)
 ]
 
 -- what was found before a step of a trace, and then in the step
-pub found_next : (s : State) (t : List Step) (n from to : ℕ) (step : Step) (old new : List Found) → n < length t
-    → get_or t n step ≡ step → old ≡ within from to (check s (take n t))
-    → new ≡ old ++ within from to (map (found_at (n + 1)) (said step (ended s (take n t))))
-    → new ≡ within from to (check s (take (n + 1) t))
-found_next s t n from to step old new short is one two =
-    let a : List Step = take n t in
-    let here : ℕ → List Found = λ at. map (found_at at) (said step (ended s a)) in
-    let more : take (n + 1) t ≡ a ++ step ∷ [] =
-    take_more t n step short ∙ ap (λ (x : Step). a ++ x ∷ []) is in
-    two ∙ ap (λ (r : List Found). r ++ within from to (here (n + 1))) one
-    ∙ ap (λ (k : ℕ). within from to (check s a) ++ within from to (here (k + 1)))
-    (sym (length-take-le n t (omega arith)))
-    ∙ sym (ap (λ (r : List Step). within from to (check s r)) more ∙ ap (within from to) (checks_more s a step)
-    ∙ filter-append (is_at from to) (check s a) (here (length a + 1)))
+pub found_next : (asked : Asked) (n : ℕ) (s : State) (t : List Step) (step : Step) (old new : List Found) → n < length t
+    → get_or t n step ≡ step → old ≡ found_in asked 0 s (take n t)
+    → new ≡ old ++ said_in asked (n + 1) (said step (ended s (take n t))) → new ≡ found_in asked 0 s (take (n + 1) t)
+found_next asked n s t step old new short is one two =
+    let before : List Step = take n t in
+    let here : n ≡ 0 + n = omega arith in
+    found_parts asked 0 n s before (step ∷ []) [] old new (sym (length-take-le n t (omega arith))) one
+    (two ∙ ap (λ k. old ++ said_in asked (k + 1) (said step (ended s before))) here
+    ∙ ap (λ r. old ++ r) (one_found asked (0 + n) (ended s before) step))
+    ∙ ap (found_in asked 0 s) (sym (take_more t n step short ∙ ap (λ (x : Step). before ++ x ∷ []) is))
 
 -- where nothing is asked for after a part, it doesn't matter in which state the next one begins
-pub same_beyond : (s r : State) (t : List Step) (at from to : ℕ) → (at ≤ to → s ≡ r)
-    → within from to (map (later at) (check s t)) ≡ within from to (map (later at) (check r t))
-same_beyond s r t at from to same = elim (cases_lt to at) [
-  | inl beyond ↦ not_within from to at (length t) (check s t) (positions_within s t) (inr (omega arith))
-      ∙ sym (not_within from to at (length t) (check r t) (positions_within r t) (inr (omega arith)))
-  | inr before ↦ ap (λ (state : State). within from to (map (later at) (check state t))) (same before)
-]
+pub same_beyond : (asked : Asked) (at : ℕ) (s r : State) (t : List Step) → asked.to < at
+    → found_in asked at s t ≡ found_in asked at r t
+same_beyond asked at s r t beyond =
+    not_within asked at s t (inr (omega arith)) ∙ sym (not_within asked at r t (inr (omega arith)))
 
 -- how many steps are judged where many findings are looked up, and then all steps are judged
 among_all : (from to : ℕ) (all : List Found) → length (within from to all) ≤ length all

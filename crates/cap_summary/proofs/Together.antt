@@ -9,10 +9,7 @@ use Rattle.cap_summary.proofs.Asking.{chosen, stands, sure_passes, fails_with, f
 use Rattle.cap_summary.proofs.Asking.{alike_sure}
 
 same_key : (j k : Key) → key_number j ≡ key_number k → j ≡ k
-same_key Key.Mode Key.Mode is = refl
-same_key Key.Mode (Key.Fd g) is = absurd (omega (arith, is))
-same_key (Key.Fd f) Key.Mode is = absurd (omega (arith, is))
-same_key (Key.Fd f) (Key.Fd g) is = ap Key.Fd (omega (arith, is))
+same_key j k is = grind (arith, is)
 
 -- an ask that surely passes the cell that stands in a state holds there
 sure_holds : (a : Ask) (s : State) (p : ℕ) (k : Key) → is_sure_at p k (cells_of s p k) a ≡ true

@@ -2,9 +2,8 @@
 -- descriptors, or have many calls that were refused for lack of a right.
 use Rattle.std.specs.Prelude.{◌+◌, ◌*◌, ◌<◌, ◌≤◌, ◌⊎◌, ◌==◌, ℕ, Bool, min, List, length}
 use Rattle.cap_summary.specs.{list_any, Step, Knows.Knows, LineAsks.refused, Names.Names, Names.names_in}
-use Rattle.cap_summary.specs.{Names.AreAmong}
-use Rattle.cap_summary.specs.{Preconditions.IsSettled, Preconditions.size, RowSizes.rows_size}
-use Rattle.cap_summary.specs.{RowSizes.AllRise, declared.known.Known.Known}
+use Rattle.cap_summary.specs.{Names.AreAmong, RowSizes.rows_size, RowSizes.AllRise, declared.known.Known.Known}
+use Rattle.cap_summary.specs.Preconditions.{IsSettled, size}
 
 -- the most rows and cells that are kept of so many steps
 abbrev pub limit : ℕ → ℕ

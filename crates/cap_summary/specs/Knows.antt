@@ -1,11 +1,10 @@
 -- What an effect and a precondition say of the steps of a segment, whatever the state before them.
 use Rattle.std.specs.Prelude.{◌≡◌, ◌*◌, ◌≤◌, ℕ, Bool, true, List, length}
-use Rattle.cap_summary.specs.{Step, State, ended, check, LeavesCell, LeavesMode, Keys.state_of, Effects.changed}
-use Rattle.cap_summary.specs.{LineAsks.refused, Keys.cells_of, Effects.leaves, LineAsks.has_any}
+use Rattle.cap_summary.specs.{Step, State, ended, check, LeavesCell, LeavesMode, Keys.state_of, Keys.cells_of}
+use Rattle.cap_summary.specs.{Effects.changed, Effects.leaves, LineAsks.refused, LineAsks.has_any}
 use Rattle.cap_summary.specs.{declared.effect.Effect.Effect, declared.key.Key.Key, declared.known.Known.Known}
-use Rattle.cap_summary.specs.{declared.precondition.Precondition.Precondition}
-use Rattle.cap_summary.specs.Names.{names_in, EffectWithin, PreWithin}
-use Rattle.cap_summary.specs.Preconditions.{is_met, IsPossible, asks_size}
+use Rattle.cap_summary.specs.{declared.precondition.Precondition.Precondition, Names.names_in, Names.EffectWithin}
+use Rattle.cap_summary.specs.{Names.PreWithin, Preconditions.is_met, Preconditions.IsPossible, Preconditions.asks_size}
 
 -- no step touches a cell, or turns a mode
 abbrev pub StepsLeave : List Step → ℕ → Key → Type 0

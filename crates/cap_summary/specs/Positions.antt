@@ -1,7 +1,8 @@
 -- The findings at a range of positions.
 use Rattle.std.specs.Prelude.{◌≡◌, ◌+◌, ◌<◌, ◌≤◌, ◌==◌, ◌&&◌, ◌⊎◌, ◌∷◌, if◌then◌else◌, ℕ, Bool, List, [], length}
-use Rattle.std.specs.Prelude.{nat_le, filter}
-use Rattle.cap_summary.specs.{Found, declared.judging.Report.Report}
+use Rattle.std.specs.Prelude.{nat_le, filter, map}
+use Rattle.cap_summary.specs.{Found, Finding, Step, State, check, found_at, later, declared.judging.Asked.Asked}
+use Rattle.cap_summary.specs.{declared.judging.Report.Report}
 
 -- a finding stands at a position from one to another, both included
 abbrev pub is_at : ℕ → ℕ → Found → Bool
@@ -9,6 +10,13 @@ is_at from to found = nat_le from found.at && nat_le found.at to
 
 abbrev pub within : ℕ → ℕ → List Found → List Found
 within from to found = filter (is_at from to) found
+
+-- what is said of a line at a position, and what is found in steps after so many others, where it is asked for
+abbrev pub said_in : Asked → ℕ → List Finding → List Found
+said_in asked at says = within asked.from asked.to (map (found_at at) says)
+
+abbrev pub found_in : Asked → ℕ → State → List Step → List Found
+found_in asked at s t = within asked.from asked.to (map (later at) (check s t))
 
 -- more than a number of findings, and no more than all
 pub record AreMany (most : ℕ) (found all : List Found) : Type 0 where

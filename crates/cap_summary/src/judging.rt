@@ -1,9 +1,8 @@
 //! Which findings are asked for, what a report has, and the findings of a run of steps.
 
 ghost use Rattle.std.specs.Prelude.{◌≡◌, ◌&&◌, ◌+◌, ◌^◌, ◌<◌, ◌≤◌, ◌++◌, ◌∷◌, nat_le, [], length, IfOk, OnOk, map};
-ghost use Rattle.cap_summary.specs.{check, ended, said, start_state, findings_of, found_at, later, values};
-ghost use Rattle.cap_summary.specs.{Effects.state_before, Positions.within, State};
-ghost use Rattle.cap_summary.specs.{LastSteps.AreNoted, LastSteps.AgreeAfter};
+ghost use Rattle.cap_summary.specs.{ended, said, start_state, findings_of, found_at, values, State, Effects.state_before};
+ghost use Rattle.cap_summary.specs.{LastSteps.AreNoted, LastSteps.AgreeAfter, LastSteps.AreJudged, Positions.said_in, Positions.found_in};
 
 use crate::last_steps::LastSteps;
 use crate::{Before, Effect};
@@ -68,8 +67,7 @@ pub(crate) fn note_asked(
     asked: &Asked,
     found: &mut Vec<Found>,
 ) -> Result<(), NoMemory>
-    ensures { OnOk result (found.new.items ≡ found.old.items
-        ++ within asked.now.from asked.now.to (map (found_at at) verdict.now)) }
+    ensures { OnOk result (found.new.items ≡ found.old.items ++ said_in asked.now at verdict.now) }
 {
     if !asked.has(at) {
         return Ok(());
@@ -88,8 +86,7 @@ fn note_line(
     found: &mut Vec<Found>,
 ) -> Result<(), NoMemory>
     ensures { OnOk result (found.new.items ≡ found.old.items
-        ++ within asked.now.from asked.now.to
-        (map (found_at at) (findings_of requirement.now pid (state_before before.now)))) }
+        ++ said_in asked.now at (findings_of requirement.now pid (state_before before.now))) }
 {
     if !asked.has(at) {
         return Ok(());
@@ -110,8 +107,8 @@ pub(crate) fn judge_run(
 ) -> Result<(), NoMemory>
     requires short { at + length run.now ≤ 2 ^ 31 }
     requires room { report.old.judged + length run.now < 2 ^ 64 }
-    ensures found { OnOk result (report.new.found.items ≡ report.old.found.items ++ within asked.now.from asked.now.to
-        (map (later at) (check (state_before before.now) (values run.now)))) }
+    ensures found { OnOk result (report.new.found.items ≡ report.old.found.items
+        ++ found_in asked.now at (state_before before.now) (values run.now)) }
     ensures counted { report.new.judged ≡ report.old.judged + length run.now }
 {
     report.judged += run.len();
@@ -174,11 +171,8 @@ pub(crate) fn judge_in_order(
 ) -> Result<(), NoMemory>
     requires short { at + length run.now ≤ 2 ^ 31 }
     requires noted { AreNoted last.now at (values run.now) }
-    ensures found { (s : State) → AgreeAfter last.now at s (start_state machine.old)
-        → OnOk result (found.new.items ≡ found.old.items
-        ++ within asked.now.from asked.now.to (map (later at) (check s (values run.now)))) }
-    ensures moves { (s : State) → AgreeAfter last.now at s (start_state machine.old)
-        → OnOk result (AgreeAfter last.now (at + length run.now) (ended s (values run.now)) (start_state machine.new)) }
+    ensures { (s : State) → AgreeAfter last.now at s (start_state machine.old) → OnOk result (AreJudged last.now
+        asked.now at (values run.now) s (start_state machine.new) found.old.items found.new.items) }
 {
     if run.len() == 0 {
         return Ok(());

@@ -1,8 +1,7 @@
 //! Sets of kinds of cells.
 
 ghost use Rattle.std.specs.Prelude.{◌≡◌, ◌%◌, ◌<◌, ◌||◌};
-ghost use Rattle.cap_summary.specs.{Cell};
-ghost use Rattle.cap_summary.specs.Tests.{kind_of, has, has_kind, any_kind, is_full};
+ghost use Rattle.cap_summary.specs.{Cell, Tests.kind_of, Tests.has, Tests.has_kind, Tests.any_kind, Tests.is_full};
 
 use cap_machine::{Cell, OnExec};
 

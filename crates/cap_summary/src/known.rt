@@ -2,7 +2,7 @@
 
 ghost use Rattle.std.specs.Prelude.{◌≡◌, ◌<◌, ◌∷◌, ◌++◌, nat_le, true, List, [], IfOk, OnOk};
 ghost use Rattle.cap_summary.specs.{Step, start_state, values, part_at, Effects.leaves, RowSizes.AllRise};
-ghost use Rattle.cap_summary.specs.Composing.{AreAlike, KeepsEffect, IsJoined, IsJoinedEffect, IsReplaced};
+ghost use Rattle.cap_summary.specs.Composing.{AreAlike, KeepsEffect, IsJoined, IsJoinedEffect};
 ghost use Rattle.cap_summary.specs.Knows.{Knows, Says, finds, state_after};
 ghost use Rattle.cap_summary.specs.Preconditions.{IsSettled, IsAskedByBoth, IsSamePrecondition, size};
 
@@ -35,8 +35,8 @@ fn put_step(
         → OnOk result (Says effect.new precondition.new (steps ++ step.now ∷ [])) }
 {
     let line = step.line.view();
+    let pid = line.pid;
     let rule = rule_of(step.profile, &line);
-    let pid = step.line.pid();
     let asks = LineAsks::of_line(pid, &rule.requirement);
     precondition.put_line(effect, &asks)?;
     effect.push(alloc, pid, &rule.effect)?;
@@ -63,49 +63,19 @@ impl Known {
         })
     }
 
-    /// The effect of these steps and then those of a later segment, which shares rows with an old whole.
-    fn joined_effect(
-        &self,
-        alloc: Global,
-        later: &Known,
-        old: Option<Replaced<'_>>,
-    ) -> Result<Rc<Effect>, NoMemory>
-        requires { IsReplaced self.now.effect.value later.now.effect.value old }
-        ensures { IfOk result (λ both.
-            IsJoinedEffect self.now.effect.value later.now.effect.value both.value) }
-    {
-        let effect = self.effect.joined(alloc, &later.effect, old)?;
-        Ok(Rc::new(alloc, effect)?)
-    }
-
-    /// What these steps and then those of a later segment ask.
-    fn joined_precondition(
-        &self,
-        alloc: Global,
-        later: &Known,
-    ) -> Result<Rc<Precondition>, NoMemory>
-        requires own { IsSettled self.now.precondition.value }
-        requires later { IsSettled later.now.precondition.value }
-        ensures { IfOk result (λ both. IsAskedByBoth self.now.effect.value self.now.precondition.value
-            later.now.precondition.value both.value) }
-    {
-        let precondition = self
-            .precondition
-            .join(alloc, &self.effect, &later.precondition)?;
-        Ok(Rc::new(alloc, precondition)?)
-    }
-
     /// What is known of these steps and then those of a later segment, settled.
     pub fn join(&self, alloc: Global, later: &Known) -> Result<Known, NoMemory>
         requires own { IsSettled self.now.precondition.value }
         requires later { IsSettled later.now.precondition.value }
         ensures { IfOk result (IsJoined self.now later.now) }
     {
-        let effect = self.joined_effect(alloc, later, None)?;
-        let precondition = self.joined_precondition(alloc, later)?;
+        let effect = self.effect.joined(alloc, &later.effect, None)?;
+        let precondition = self
+            .precondition
+            .join(alloc, &self.effect, &later.precondition)?;
         Ok(Known {
-            effect,
-            precondition,
+            effect: Rc::new(alloc, effect)?,
+            precondition: Rc::new(alloc, precondition)?,
         })
     }
 
@@ -124,24 +94,6 @@ impl Known {
         Similarity {
             effect,
             precondition: similarity.precondition || was.precondition.is_same(&self.precondition),
-        }
-    }
-
-    /// What is the same of a part as of the one whose place it took.
-    fn similarity_at(
-        first: &Known,
-        second: &Known,
-        was: &Known,
-        side: Side,
-        similarity: Similarity,
-    ) -> Similarity
-        requires { AreAlike similarity was.now (part_at side first.now second.now) }
-        ensures alike { AreAlike result was.now (part_at side first.now second.now) }
-        ensures effect { KeepsEffect side result }
-    {
-        match side {
-            Side::Left => first.similarity_to(was, side, similarity),
-            Side::Right => second.similarity_to(was, side, similarity),
         }
     }
 
@@ -172,8 +124,8 @@ impl Known {
             was: &was.effect,
             side,
         };
-        let effect = self.joined_effect(alloc, later, Some(replaced))?;
-        Ok(effect)
+        let effect = self.effect.joined(alloc, &later.effect, Some(replaced))?;
+        Ok(Rc::new(alloc, effect)?)
     }
 
     /// What these steps and a later segment ask: what an old whole asks where that is kept.
@@ -196,8 +148,10 @@ impl Known {
         if kept.precondition {
             return Ok(old.precondition.clone()?);
         }
-        let precondition = self.joined_precondition(alloc, later)?;
-        Ok(precondition)
+        let precondition = self
+            .precondition
+            .join(alloc, &self.effect, &later.precondition)?;
+        Ok(Rc::new(alloc, precondition)?)
     }
 
     /// What is known of two segments, one of which took the place of `was` in an old whole, and how far it is the same as
@@ -220,7 +174,8 @@ impl Known {
         ensures joined { IfOk result (λ new. IsJoined first.now second.now new.0) }
         ensures alike { IfOk result (λ new. AreAlike new.1 old.now new.0) }
     {
-        let kept = Known::similarity_at(first, second, was, side, similarity);
+        let (part, _) = side.order(first, second);
+        let kept = part.similarity_to(was, side, similarity);
         let effect = first.rejoined_effect(alloc, second, old, was, side, kept)?;
         let precondition = first.rejoined_precondition(alloc, second, old, kept)?;
         let known = Known {

@@ -1,6 +1,6 @@
 //! Where each process makes its last step.
 
-ghost use Rattle.std.specs.Prelude.{◌≡◌, ◌≤◌, ◌+◌, ◌^◌, ℕ, length, OnOk};
+ghost use Rattle.std.specs.Prelude.{◌≡◌, ◌≤◌, ◌+◌, ◌^◌, length, OnOk};
 ghost use Rattle.cap_summary.specs.{values, LastSteps.last_of, LastSteps.IsNoLess, LastSteps.AreNoted};
 
 use cap_machine::Step;

@@ -1,10 +1,9 @@
 //! What one line asks of the cells before it.
 
 ghost use Rattle.std.specs.Prelude.{◌≡◌, ◌≤◌, ◌&&◌, ◌||◌, if◌then◌else◌, true, length};
-ghost use Rattle.cap_summary.specs.{list_any, Check, LimitWord, State, listed};
-ghost use Rattle.cap_summary.specs.{Asks.holds, Asks.any_holds, Asks.asks_of, Asks.AreWithin, Tests.has_kind, Tests.lacks};
-ghost use Rattle.cap_summary.specs.{declared.key.Key.Key};
-ghost use Rattle.cap_summary.specs.Keys.{Cells, cells_of, mode_cell};
+ghost use Rattle.cap_summary.specs.{list_any, Check, LimitWord, State, listed, Tests.has_kind, Tests.lacks};
+ghost use Rattle.cap_summary.specs.{declared.key.Key.Key, Keys.Cells, Keys.cells_of, Keys.mode_cell};
+ghost use Rattle.cap_summary.specs.Asks.{holds, any_holds, asks_of, AreWithin};
 ghost use Rattle.cap_summary.specs.LineAsks.{is_lacked, asks_in, IsAskedBy, is_refusal, refusals_in};
 ghost use Rattle.cap_summary.specs.Names.{Names, has_cell, ChecksWithin, DemandWithin};
 

@@ -1,14 +1,13 @@
 //! The nodes of a summary. A contract sees a node as its steps, and what is known of them where that is kept.
 
 ghost use Rattle.std.specs.Prelude.{◌≡◌, ◌+◌, ◌*◌, ◌^◌, ◌<◌, ◌≤◌, ◌++◌, ◌⊎◌, length, IfOk, OnOk, IfSome};
-ghost use Rattle.std.specs.Prelude.{IfNone, true, is_some, Some, map, option_copied};
-ghost use Rattle.cap_summary.specs.{check, ended, start_state, later, values, part_at, Effects.state_before};
-ghost use Rattle.cap_summary.specs.{Kept.NameOrRefuseMany, Kept.IsKept, Kept.IsWithin, Kept.IsLarge, Kept.ListsMany};
-ghost use Rattle.cap_summary.specs.{Knows.Knows, Preconditions.IsSettled};
-ghost use Rattle.cap_summary.specs.Content.{content_steps, HasParts, AreKept, KeepsParts};
-ghost use Rattle.cap_summary.specs.Positions.{within, AllOrMany, WereJudged};
-ghost use Rattle.cap_summary.specs.{State, LastSteps.IsNoLess, LastSteps.AreNoted, LastSteps.AgreeAfter};
-ghost use Rattle.cap_summary.specs.{Composing.NodeView, Composing.NodesCompose, Composing.NodesAlike};
+ghost use Rattle.std.specs.Prelude.{IfNone, true, is_some, Some, option_copied};
+ghost use Rattle.cap_summary.specs.{check, start_state, values, part_at, State, Effects.state_before, Knows.Knows};
+ghost use Rattle.cap_summary.specs.{Preconditions.IsSettled, Content.content_steps, Content.HasParts, Content.AreKept};
+ghost use Rattle.cap_summary.specs.{Content.KeepsParts, Positions.found_in, Positions.AllOrMany, Positions.WereJudged};
+ghost use Rattle.cap_summary.specs.Kept.{NameOrRefuseMany, IsKept, IsWithin, IsLarge, ListsMany};
+ghost use Rattle.cap_summary.specs.LastSteps.{IsNoLess, AreNoted, AgreeAfter, AreJudged};
+ghost use Rattle.cap_summary.specs.Composing.{NodeView, NodesCompose, NodesAlike};
 
 use crate::judging::{Asked, judge_in_order, judge_run};
 use crate::last_steps::LastSteps;
@@ -140,21 +139,13 @@ impl Node {
         Ok(Rc::new(alloc, node)?)
     }
 
-    /// Adds the same steps, shared.
-    fn share(run: &mut Vec<Rc<Step>>, more: &[Rc<Step>]) -> Result<(), NoMemory>
-        ensures { OnOk result (values run.new.items ≡ values run.old.items ++ values more.now) }
-    {
-        run.extend_from_slice(more)?;
-        Ok(())
-    }
-
     /// The run of these steps, which it shares.
     pub(crate) fn of_run(alloc: Global, steps: &[Rc<Step>]) -> Result<Rc<Node>, NoMemory>
         requires { length steps.now ≤ 48 }
         ensures { IfOk result (λ n. n.value.steps ≡ values steps.now) }
     {
-        let mut run = Vec::with_capacity(alloc, steps.len())?;
-        Node::share(&mut run, steps)?;
+        let mut run: Vec<Rc<Step>> = Vec::with_capacity(alloc, steps.len())?;
+        run.extend_from_slice(steps)?;
         let known = Known::of_run(alloc, steps)?;
         Node::of(alloc, Some(known), Content::Run(run))
     }
@@ -236,32 +227,16 @@ impl Node {
             was.known(),
             Node::known_of_both(left, right),
         ) else {
-            return Node::join_anew(alloc, left, right);
+            return Ok((Node::join(alloc, left, right)?, Similarity::none()));
         };
         if left.len() == 0 || right.len() == 0 || was.len() == 0 {
-            return Node::join_anew(alloc, left, right);
+            return Ok((Node::join(alloc, left, right)?, Similarity::none()));
         }
         let (known, similarity) = Known::rejoin(
             alloc, first, second, whole, part, side, similarity,
         )?;
         let node = Node::of_parts(alloc, Some(known), left, right)?;
         Ok((node, similarity))
-    }
-
-    /// The steps of the one and then those of the other, with nothing known of what is like an old node.
-    fn join_anew(
-        alloc: Global,
-        left: &Rc<Node>,
-        right: &Rc<Node>,
-    ) -> Result<(Rc<Node>, Similarity), NoMemory>
-        requires { length left.now.value.steps + length right.now.value.steps ≤ 2 ^ 30 }
-        ensures steps { IfOk result
-            (λ new. new.0.value.steps ≡ left.now.value.steps ++ right.now.value.steps) }
-        ensures composed { IfOk result (λ new. NodesCompose left.now.value right.now.value new.0.value) }
-        ensures alike { IfOk result (λ new. (old : NodeView) → NodesAlike new.1 old new.0.value) }
-    {
-        let node = Node::join(alloc, left, right)?;
-        Ok((node, Similarity::none()))
     }
 
     /// What is known of two parts, where it may be kept of both together.
@@ -318,8 +293,8 @@ impl Node {
         requires kept { is_some self.now.known ≡ true }
         requires short { at + length self.now.steps ≤ 2 ^ 31 }
         requires room { report.old.judged + length self.now.steps < 2 ^ 64 }
-        ensures found { OnOk result (AllOrMany asked.now.most report.new.found.items (report.old.found.items
-            ++ within asked.now.from asked.now.to (map (later at) (check (state_before before.now) self.now.steps)))) }
+        ensures found { OnOk result (AllOrMany asked.now.most report.new.found.items
+            (report.old.found.items ++ found_in asked.now at (state_before before.now) self.now.steps)) }
         ensures few { OnOk result (report.new.judged
             ≤ report.old.judged + 48 * length (check (state_before before.now) self.now.steps)) }
         ensures all { OnOk result (report.new.judged ≤ report.old.judged + length self.now.steps) }
@@ -384,12 +359,8 @@ impl Node {
         requires short { at + length self.now.steps ≤ 2 ^ 31 }
         requires room { report.old.judged + length self.now.steps < 2 ^ 64 }
         requires noted { AreNoted last.now at self.now.steps }
-        ensures found { (s : State) → AgreeAfter last.now at s (start_state machine.old)
-            → OnOk result (report.new.found.items ≡ report.old.found.items
-            ++ within asked.now.from asked.now.to (map (later at) (check s self.now.steps))) }
-        ensures moves { (s : State) → AgreeAfter last.now at s (start_state machine.old)
-            → OnOk result (at + length self.now.steps ≤ asked.now.to
-            → AgreeAfter last.now (at + length self.now.steps) (ended s self.now.steps) (start_state machine.new)) }
+        ensures judged { (s : State) → AgreeAfter last.now at s (start_state machine.old) → OnOk result (AreJudged last.now
+            asked.now at self.now.steps s (start_state machine.new) report.old.found.items report.new.found.items) }
         ensures all { OnOk result (report.new.judged ≤ report.old.judged + length self.now.steps) }
         ensures each { OnOk result (WereJudged report.old report.new) }
     {

@@ -6,9 +6,8 @@ ghost use Rattle.cap_summary.specs.{list_any, State, Effects.changed, Keys.Cells
 ghost use Rattle.cap_summary.specs.Asks.{any_holds, asks_of, AreWithin, Rises};
 ghost use Rattle.cap_summary.specs.LineAsks.{asked_holds, asks_in, refusals_in};
 ghost use Rattle.cap_summary.specs.Names.{Names, has_cell, RefusalsWithin, PreWithin};
-ghost use Rattle.cap_summary.specs.Preconditions.{is_met, is_wrongful, IsWithMore, IsSettled};
-ghost use Rattle.cap_summary.specs.Preconditions.{IsPossible, IsPulledBack, IsAskedByOne, IsAskedByBoth};
-ghost use Rattle.cap_summary.specs.Preconditions.{IsSamePrecondition, asks_size};
+ghost use Rattle.cap_summary.specs.Preconditions.{is_met, is_wrongful, IsWithMore, IsSettled, IsPossible, IsPulledBack};
+ghost use Rattle.cap_summary.specs.Preconditions.{IsAskedByOne, IsAskedByBoth, IsSamePrecondition, asks_size};
 
 use crate::asks::{in_order, unite};
 use crate::{Ask, Effect, LineAsks, Pulled, Row, UpToThree};
@@ -172,16 +171,17 @@ impl Precondition {
             (λ names. AreWithin (has_cell names) (asks_of unless.now)) 1 1 self.old self.new) }
         ensures asks { self.new.asks ≡ self.old.asks }
     {
-        let Some(unless) = unless.before(first) else {
+        let pulled = unless.before(first);
+        let Some(asks) = pulled else {
             return Ok(());
         };
-        if unless.is_certain() {
+        if asks.is_certain() {
             return Ok(());
         }
-        if unless.as_slice().is_empty() {
+        if asks.as_slice().is_empty() {
             self.certain = true;
         } else {
-            self.refusals.push(unless)?;
+            self.refusals.push(asks)?;
         }
         Ok(())
     }

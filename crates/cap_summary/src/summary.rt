@@ -3,8 +3,7 @@
 ghost use Rattle.std.specs.Prelude.{◌≡◌, ◌+◌, ◌*◌, ◌^◌, ◌<◌, ◌≤◌, true, is_some, length, IfOk, OnOk, IfSome, IfNone};
 ghost use Rattle.std.specs.Prelude.{option_copied};
 ghost use Rattle.cap_summary.specs.{check, start_state, Kept.NameOrRefuseMany, Kept.IsKept, Positions.within};
-ghost use Rattle.cap_summary.specs.{Positions.positions};
-ghost use Rattle.cap_summary.specs.Stands.{Stands, summed_up, kept_of};
+ghost use Rattle.cap_summary.specs.{Positions.positions, Stands.Stands, Stands.summed_up, Stands.kept_of};
 ghost use Rattle.cap_summary.specs.{Composing.NodesCompose, Composing.IfKept, Preconditions.IsSamePrecondition};
 
 use crate::explaining::judge_alone;

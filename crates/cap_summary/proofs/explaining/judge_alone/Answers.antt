@@ -1,38 +1,33 @@
 use Rattle.std.specs.Prelude.{◌≡◌, ◌+◌, ◌≤◌, ℕ, List, take}
-use Rattle.cap_summary.specs.{Step, State, Found, check, Explained, start_state, Positions.within, Positions.positions}
-use Rattle.cap_summary.proofs.{◌∙◌, sym, ap, arith, Judged.one_more}
-use Rattle.cap_summary.proofs.Resolving.{none_before_first, found_next, found_upto_last}
-use Rattle.cap_summary.proofs.explaining.judge_alone.Goals.{In_ok-note_asked}
+use Rattle.cap_summary.specs.{Step, State, Found, Explained, start_state, Positions.found_in, Positions.positions}
+use Rattle.cap_summary.proofs.{◌∙◌, sym, ap, arith, Judged.one_more, explaining.judge_alone.Goals.In_ok-note_asked}
+use Rattle.cap_summary.proofs.Resolving.{none_before_first, found_next, found_in_first, from_first}
 use Rattle.cap_summary.proofs.explaining.judge_alone.Goals as goal
 
 pub loop-count-init : goal.loop-count-init
 loop-count-init c =
     let s : State = start_state c.args.start.now in
     let t : List Step = c.args.node.now.steps in
-    let from : ℕ = c.args.asked.now.from in
-    let to : ℕ = c.args.asked.now.to in
     record {
-      found = c.requires.nothing ∙ none_before_first s t from to
-          ∙ ap (λ (n : ℕ). within from to (check s (take n t))) (sym c.saturating_sub-count.ensures);
+      found = c.requires.nothing ∙ none_before_first c.args.asked.now s t
+          ∙ ap (λ (n : ℕ). found_in c.args.asked.now 0 s (take n t)) (sym c.saturating_sub-count.ensures);
       counted = omega (arith, c.requires.none_judged);
       all = omega (arith, c.requires.none_judged);
       each = rw c.requires.nothing (omega arith);
     }
 
 -- what is found up to one more step, and at how many positions
-found_more : (c : In_ok-note_asked) → (c.note_asked.new.found.items ≡ within c.args.asked.now.from c.args.asked.now.to
-    (check (start_state c.args.start.now) (take (c.loop-count.count + 1) c.args.node.now.steps)))
+found_more : (c : In_ok-note_asked) → (c.note_asked.new.found.items ≡ found_in c.args.asked.now 0
+    (start_state c.args.start.now) (take (c.loop-count.count + 1) c.args.node.now.steps))
     × (positions c.note_asked.new.found.items ≤ c.loop-count.report.judged + 1)
 found_more c =
-    let from : ℕ = c.args.asked.now.from in
-    let to : ℕ = c.args.asked.now.to in
     let old : List Found = c.loop-count.report.found.items in
     let new : List Found = c.note_asked.new.found.items in
     let said = ap (λ (e : Explained). e.findings) c.in_ok-explanation.ensures in
-    let here : positions new ≤ positions old + 1 = one_more from to (c.loop-count.count + 1) old new
+    let here : positions new ≤ positions old + 1 = one_more c.args.asked.now (c.loop-count.count + 1) old new
     c.in_ok-explanation.explanation.verdict c.in_ok-note_asked.ensures in (
-      found_next (start_state c.args.start.now) c.args.node.now.steps c.loop-count.count from to c.step.result.now old new
-          (omega (arith, c.loop-count-test.true)) c.step.ensures c.loop-count.invariant.found
+      found_next c.args.asked.now c.loop-count.count (start_state c.args.start.now) c.args.node.now.steps
+          c.step.result.now old new (omega (arith, c.loop-count-test.true)) c.step.ensures c.loop-count.invariant.found
           (rw said at c.in_ok-note_asked.ensures),
       omega (arith, c.loop-count.invariant.each, here),
     )
@@ -56,6 +51,6 @@ loop-count-preserved-in_ok-note_asked c =
     }
 
 pub returns-clause-found : goal.returns-clause-found
-returns-clause-found c = found_upto_last (start_state c.args.start.now) c.args.node.now.steps c.loop-count.count
-    c.args.asked.now.from c.args.asked.now.to c.loop-count.report.found.items
-    (λ short. omega (arith, short, c.loop-count-test.false)) c.loop-count.invariant.found
+returns-clause-found c = c.loop-count.invariant.found ∙ found_in_first c.args.asked.now 0 c.loop-count.count
+    (start_state c.args.start.now) c.args.node.now.steps (λ short. omega (arith, short, c.loop-count-test.false))
+    ∙ from_first c.args.asked.now (start_state c.args.start.now) c.args.node.now.steps

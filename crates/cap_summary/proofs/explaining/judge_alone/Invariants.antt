@@ -1,11 +1,10 @@
 use Rattle.std.specs.Prelude.{◌≡◌, ◌-◌, ◌≤◌, length, take}
-use Rattle.cap_summary.specs.{check, start_state, Positions.within, Positions.positions}
+use Rattle.cap_summary.specs.{start_state, Positions.found_in, Positions.positions}
 use Rattle.cap_summary.proofs.explaining.judge_alone.Given as goal
 
 abbrev pub invariant-loop-count : goal.invariant-loop-count
 invariant-loop-count l = record {
-  found : l.report.found.items
-      ≡ within l.asked.from l.asked.to (check (start_state l.start) (take l.count l.node.steps));
+  found : l.report.found.items ≡ found_in l.asked 0 (start_state l.start) (take l.count l.node.steps);
   counted : l.report.judged ≤ l.count;
   all : l.report.judged ≤ length l.node.steps;
   each : positions l.report.found.items ≤ l.report.judged;

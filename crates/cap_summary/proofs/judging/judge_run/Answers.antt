@@ -1,6 +1,6 @@
-use Rattle.std.specs.Prelude.{◌≡◌, ◌+◌, ◌++◌, ℕ, List, length, map, take}
-use Rattle.cap_summary.specs.{Rc, Global, Step, Found, State, check, said, found_at, later, Entry, values}
-use Rattle.cap_summary.specs.{Effects.state_before, Keys.state_of, Effects.changed, Keys.cells_of, Positions.within}
+use Rattle.std.specs.Prelude.{◌≡◌, ◌+◌, ◌++◌, ℕ, List, length, take}
+use Rattle.cap_summary.specs.{Rc, Global, Step, Found, State, said, Entry, values}
+use Rattle.cap_summary.specs.{Effects.state_before, Keys.state_of, Effects.changed, Keys.cells_of, Positions.said_in, Positions.found_in}
 use Rattle.cap_summary.proofs.{sym, ap, ◌∙◌, arith, length-map, length-take-le, take_all, Judged.none_judged}
 use Rattle.cap_summary.proofs.{Judged.more_judged, Knowing.one_more, Knowing.after_more, Resolving.found_in_first}
 use Rattle.cap_summary.proofs.{Runs.values-take}
@@ -10,8 +10,8 @@ pub loop-step-init : goal.loop-step-init
 loop-step-init c = record {
   counted = omega arith;
   position = omega arith;
-  judged = none_judged (state_before c.args.before.now) c.args.at c.args.asked.now.from c.args.asked.now.to
-      c.args.report.now.found.items c.empty-effect.result c.empty-effect.ensures.cells;
+  judged = none_judged c.args.asked.now c.args.at (state_before c.args.before.now) c.args.report.now.found.items
+      c.empty-effect.result c.empty-effect.ensures.cells;
 }
 
 pub loop-step-preserved : goal.loop-step-preserved
@@ -21,8 +21,6 @@ loop-step-preserved c =
     let n : ℕ = c.loop-step.step-index in
     let read : List (Rc Step Global) = take c.min.result c.args.run.now in
     let run : List (Rc Step Global) = take n read in
-    let from : ℕ = c.args.asked.now.from in
-    let to : ℕ = c.args.asked.now.to in
     let first : List Found = c.loop-step.report.found.items in
     let all : List Found = c.note_line.new.found.items in
     let rule = c.rule_of-rule.ensures in
@@ -30,8 +28,8 @@ loop-step-preserved c =
     let pid : c.line.inside.pid ≡ step.line.pid =
     ap (λ (e : Entry). e.pid) (rw (c.view-line.ensures, here) at c.line.view_is) in
     let position : c.loop-step.position + 1 ≡ c.args.at + n + 1 = omega (arith, c.loop-step.invariant.position) in
-    let said_here : all ≡ first ++ within from to (map (found_at (c.args.at + n + 1))
-    (said step (state_of (changed c.loop-step.effect (cells_of s))))) =
+    let said_here : all ≡ first ++ said_in c.args.asked.now (c.args.at + n + 1)
+    (said step (state_of (changed c.loop-step.effect (cells_of s)))) =
     rw (position, pid, rule.requirement, c.view-line.ensures, here)
     at c.in_ok-note_line.ensures in
     let len : n ≡ length (values run) =
@@ -41,8 +39,8 @@ loop-step-preserved c =
       counted = omega (arith, c.loop-step.invariant.counted);
       position = omega (arith, c.loop-step.invariant.position);
       judged = rw (one_more read n c.step-item.result c.loop-step-test.true c.step-item.is)
-          (more_judged s (values run) c.args.at n from to c.args.report.now.found.items first all c.loop-step.effect
-          c.push.new.self step c.loop-step.invariant.judged len said_here
+          (more_judged c.args.asked.now c.args.at n s (values run) c.args.report.now.found.items first all
+          c.loop-step.effect c.push.new.self step c.loop-step.invariant.judged len said_here
           (after_more step c.rule_of-rule.result.effect c.line.inside.pid
           (λ p f. rw pid (rw (c.view-line.ensures, c.deref-in-loop-step.ensures, here) at (rule.cells p f)))
           (λ p. rw pid (rw (c.view-line.ensures, here) at (rule.modes p)))
@@ -55,10 +53,8 @@ returns-clause-found c =
     let s : State = state_before c.args.before.now in
     let run : List (Rc Step Global) = c.args.run.now in
     let last : ℕ = c.min.result in
-    let from : ℕ = c.args.asked.now.from in
-    let to : ℕ = c.args.asked.now.to in
-    let found : List Step → List Found = λ t. within from to (map (later c.args.at) (check s t)) in
     let long : length (values run) ≡ length run = length-map run (λ (item : Rc Step Global). item.value) in
     rw (take_all c.loop-step.step-index (take last run) (omega arith)) at c.loop-step.invariant.judged.findings
-    ∙ ap (λ (r : List Found). c.args.report.now.found.items ++ r) (ap found (sym (values-take last run))
-    ∙ found_in_first s (values run) last c.args.at from to (λ short. omega (arith, long, short, c.min.ensures)))
+    ∙ ap (λ (r : List Found). c.args.report.now.found.items ++ r)
+    (ap (found_in c.args.asked.now c.args.at s) (sym (values-take last run)) ∙ found_in_first c.args.asked.now c.args.at
+    last s (values run) (λ short. omega (arith, long, short, c.min.ensures)))

@@ -7,6 +7,6 @@ abbrev pub invariant-loop-step : goal.invariant-loop-step
 invariant-loop-step l = record {
   counted : l.report.judged ≡ l.fn.report.judged + length l.run;
   position : l.position ≡ l.at + l.step-index;
-  judged : IsJudged (state_before l.before) (values (take l.step-index l.read)) l.at l.asked.from l.asked.to
-      l.fn.report.found.items l.report.found.items l.effect;
+  judged : IsJudged l.asked l.at (state_before l.before) (values (take l.step-index l.read)) l.fn.report.found.items
+      l.report.found.items l.effect;
 }

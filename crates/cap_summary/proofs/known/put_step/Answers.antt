@@ -1,15 +1,15 @@
-use Rattle.std.specs.Prelude.{◌∷◌, ◌++◌, []}
-use Rattle.cap_summary.specs.{Names.names_in}
-use Rattle.cap_summary.proofs.{Knowing.says_more, Naming.line_in, Naming.requirement_in}
+use Rattle.std.specs.Prelude.{◌≡◌, ◌∷◌, ◌++◌, []}
+use Rattle.cap_summary.specs.{Entry, Names.names_in}
+use Rattle.cap_summary.proofs.{ap, Knowing.says_more, Naming.line_in, Naming.requirement_in}
 use Rattle.cap_summary.proofs.known.put_step.Goals as goal
 
 pub returns : goal.returns
 returns c = λ steps so_far.
     let rule = c.rule_of-rule.ensures in
     let view = c.view-line.ensures in
-    let pid = c.pid-pid.ensures in
+    let pid : c.line.inside.pid ≡ c.args.step.now.line.pid = ap (λ (e : Entry). e.pid) (rw view at c.line.view_is) in
     let requirement = rw view at rule.requirement in
-    says_more c.args.step.now c.rule_of-rule.result.effect c.pid-pid.result
+    says_more c.args.step.now c.rule_of-rule.result.effect c.line.inside.pid
     (λ p f. rw pid (rw view at (rule.cells p f)))
     (λ p. rw pid (rw view at (rule.modes p))) c.args.effect.now c.push.new.self c.args.precondition.now
     c.put_line.new.self c.of_line-asks.result steps so_far

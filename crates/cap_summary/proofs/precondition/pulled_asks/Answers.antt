@@ -1,9 +1,8 @@
-use Rattle.std.proofs.{lemmas.List.Folds.list_any_at}
+use Rattle.std.proofs.lemmas.List.Folds.{list_any_at}
 use Rattle.std.specs.Prelude.{◌≡◌, true, refl, Some, IfSome}
-use Rattle.cap_summary.specs.{Equal, State, Effects.cell_in, Effects.changed, Keys.cells_of, Tests.passes}
-use Rattle.cap_summary.specs.{Sorted.found, declared.ask.Ask.Ask}
+use Rattle.cap_summary.specs.{Equal, State, Effects.cell_in, Effects.changed, Keys.cells_of, Tests.passes, Sorted.found}
+use Rattle.cap_summary.specs.{declared.ask.Ask.Ask, Names.Names, Names.has_cell, Names.IsRowWithin, Names.EffectWithin}
 use Rattle.cap_summary.specs.Asks.{holds, pulled_holds, IfAsked, AskWithin, IsOpen}
-use Rattle.cap_summary.specs.Names.{Names, has_cell, IsRowWithin, EffectWithin}
 use Rattle.cap_summary.proofs.{drop_all, append-nil, arith, sym, ap, ◌∙◌, subst, ranked}
 use Rattle.cap_summary.proofs.Pulling.{pulled_none, pulled_never, pulled_kept, swapped, kept_same, kept_more}
 use Rattle.cap_summary.proofs.precondition.pulled_asks.Goals as goal

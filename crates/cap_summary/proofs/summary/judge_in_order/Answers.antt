@@ -1,6 +1,6 @@
 use Rattle.std.specs.Prelude.{◌≡◌, List}
 use Rattle.cap_summary.specs.{State, Step, start_state, Stands.summed_up, LastSteps.AgreeAfter}
-use Rattle.cap_summary.proofs.{sym, on_ok_weaker, subst, Agreeing.agree_same, Resolving.found_in_order}
+use Rattle.cap_summary.proofs.{sym, ◌∙◌, on_ok_weaker, subst, Agreeing.agree_same, Resolving.from_first}
 use Rattle.cap_summary.proofs.summary.judge_in_order.Goals as goal
 
 pub returns-clause-found : goal.returns-clause-found
@@ -8,7 +8,7 @@ returns-clause-found c =
     let s : State = start_state c.args.start.now in
     let steps : List Step = summed_up c.args.summary.now in
     let began : start_state c.in-Ok.machine ≡ s = c.in-Ok.ensures in
-    on_ok_weaker c.judge-judged.result (λ done. found_in_order s steps c.args.asked.now.from c.args.asked.now.to
-    c.judge-judged.new.report.found.items (rw (c.clear.ensures.items, c.deref-2.ensures) at done))
-    (c.judge-judged.ensures.found s (subst (λ (r : State). AgreeAfter c.note_last.new.last 0 s r) (sym began)
+    on_ok_weaker c.judge-judged.result
+    (λ done. (rw (c.clear.ensures.items, c.deref-2.ensures) at done).found ∙ from_first c.args.asked.now s steps)
+    (c.judge-judged.ensures.judged s (subst (λ (r : State). AgreeAfter c.note_last.new.last 0 s r) (sym began)
     (agree_same c.note_last.new.last 0 s)))

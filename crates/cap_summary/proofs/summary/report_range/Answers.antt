@@ -1,16 +1,17 @@
 use Rattle.std.specs.Prelude.{◌≡◌, ◌/◌, ℕ, List, length, true, false, is_some}
 use Rattle.cap_summary.specs.{Found, check, State, start_state, Positions.within, Stands.summed_up, Stands.kept_of}
-use Rattle.cap_summary.proofs.{ap, arith, sym, ◌∙◌, Resolving.all_or_many, Resolving.judged_all, Resolving.not_many}
+use Rattle.cap_summary.proofs.{ap, arith, sym, ◌∙◌, Resolving.later-none, Resolving.judged_all, Resolving.not_many}
 use Rattle.cap_summary.proofs.summary.report_range.Goals as goal
 
 pub returns-then-len-most-clause-found : goal.returns-then-len-most-clause-found
 returns-then-len-most-clause-found c =
     let all : List Found = check (start_state c.args.start.now) (summed_up c.args.summary.now) in
     let found : List Found = c.resolve.new.report.found.items in
-    not_many (c.len-most.result / 2048) found (within c.args.from c.args.to all)
-    (all_or_many (c.len-most.result / 2048) (start_state c.args.start.now) (summed_up c.args.summary.now) c.args.from
-    c.args.to found (rw (c.new.ensures.items, c.deref-then-is_kept.ensures) at c.in_ok-resolve.ensures.found))
-    (omega arith)
+    not_many (c.len-most.result / 2048) found (within c.args.from c.args.to all) (rw (
+      c.new.ensures.items,
+      c.deref-then-is_kept.ensures,
+      later-none all,
+    ) at c.in_ok-resolve.ensures.found) (omega arith)
 
 pub returns-clause-few : goal.returns-clause-few
 returns-clause-few c = λ kept.
@@ -25,8 +26,7 @@ returns-clause-few c = λ kept.
           let few = rw w.deref-then-is_kept.ensures at w.in_ok-resolve.ensures.few in
           judged_all (c.len-most.result / 2048) n w.resolve.new.report.judged c.judge_in_order.new.report.judged
           c.args.from c.args.to found all (ap (λ m. m / 2048) len) (omega arith)
-          (all_or_many (c.len-most.result / 2048) s (summed_up c.args.summary.now) c.args.from c.args.to found
-          (rw (c.new.ensures.items, w.deref-then-is_kept.ensures) at w.in_ok-resolve.ensures.found))
+          (rw (c.new.ensures.items, w.deref-then-is_kept.ensures, later-none all) at w.in_ok-resolve.ensures.found)
           (omega (arith, few)) (rw w.report-is at c.in_ok-judge_in_order.ensures.all)
       | goal.else-is_kept+else-are_at_most w ↦
           absurd (let wrong : true ≡ false = sym kept ∙ sym is ∙ w.if-is_kept.false in cc)

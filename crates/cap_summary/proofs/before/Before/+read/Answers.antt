@@ -1,7 +1,6 @@
 use Rattle.std.specs.Prelude.{◌≡◌, refl}
 use Rattle.cap_summary.specs.{Effects.state_before, Effects.changed, Values.seen_cell, declared.effect.Effect.Effect}
-use Rattle.cap_summary.specs.{declared.key.Key.Key}
-use Rattle.cap_summary.specs.Keys.{Cells, cells_of, mode_cell, cell_mode}
+use Rattle.cap_summary.specs.{declared.key.Key.Key, Keys.Cells, Keys.cells_of, Keys.mode_cell, Keys.cell_mode}
 use Rattle.cap_summary.proofs.{ap, ◌∙◌}
 use Rattle.cap_summary.proofs.before.Before.+read.Goals as goal
 

@@ -1,7 +1,6 @@
 use Rattle.std.specs.Prelude.{◌≡◌, ◌+◌, ◌++◌, List, length}
 use Rattle.cap_summary.specs.{Step, Content.content_steps, LastSteps.AreNoted}
-use Rattle.cap_summary.proofs.{sym, ap, ◌∙◌, subst, Runs.same_steps}
-use Rattle.cap_summary.proofs.Agreeing.{noted_later, noted_both}
+use Rattle.cap_summary.proofs.{sym, ap, ◌∙◌, subst, Runs.same_steps, Agreeing.noted_later, Agreeing.noted_both}
 use Rattle.cap_summary.proofs.node.Node.+note_last.Goals as goal
 
 pub returns-in_ok-note_last-in-Both-2-clause-noted : goal.returns-in_ok-note_last-in-Both-2-clause-noted

@@ -1,27 +1,21 @@
-use Rattle.std.specs.Prelude.{◌≡◌, ◌≤◌, ◌++◌, ℕ, List, length, map, true}
-use Rattle.cap_summary.specs.{Step, State, Found, check, later, Effects.state_before, Content.content_steps}
-use Rattle.cap_summary.specs.{Kept.IsKept}
-use Rattle.cap_summary.specs.{LineAsks.has_any, Positions.within}
+use Rattle.std.specs.Prelude.{◌≡◌, ◌≤◌, ◌++◌, List, length, true, refl}
+use Rattle.cap_summary.specs.{Step, State, Found, check, Effects.state_before, Content.content_steps, Kept.IsKept}
+use Rattle.cap_summary.specs.{LineAsks.has_any}
 use Rattle.cap_summary.proofs.{sym, ap, ◌∙◌, arith, inl, inr, length-append, on_ok_weaker, Judged.run_judged}
 use Rattle.cap_summary.proofs.{Judged.known_ends, Runs.same_steps}
-use Rattle.cap_summary.proofs.Resolving.{found_outside, not_many, stopped, parts_or_many, many_parts}
-use Rattle.cap_summary.proofs.Resolving.{some_found}
+use Rattle.cap_summary.proofs.Resolving.{found_all, found_outside, not_many, stopped, many_parts, some_found}
 use Rattle.cap_summary.proofs.node.Node.+resolve.Goals as goal
 
 pub returns-then-asked-at-clause-found : goal.returns-then-asked-at-clause-found
 returns-then-asked-at-clause-found t c =
     let s : State = state_before c.args.before.now in
     let steps : List Step = c.args.self.now.steps in
-    let from : ℕ = c.args.asked.now.from in
-    let to : ℕ = c.args.asked.now.to in
-    let old : List Found = c.args.report.now.found.items in
     let len : c.self.inside.len ≡ length steps = c.self.invariant.len
     ∙ ap (λ (r : List Step). length r) (same_steps c.self.view_is) in
-    elim c.then-asked-at.branch [
-      | goal.then-asked-at-via-then-asked-at w ↦ inl (found_outside s steps c.args.at from to old (inr (omega arith)))
-      | goal.then-asked-at-via-else-asked-at+then-at-self w ↦
-          inl (found_outside s steps c.args.at from to old (inl (omega (arith, w.if-at-self.true, len))))
-    ]
+    inl (found_outside c.args.asked.now c.args.at s steps c.args.report.now.found.items (elim c.then-asked-at.branch [
+      | goal.then-asked-at-via-then-asked-at w ↦ inr (omega arith)
+      | goal.then-asked-at-via-else-asked-at+then-at-self w ↦ inl (omega (arith, w.if-at-self.true, len))
+    ]))
 
 pub returns-else-not-meets-clause-few : goal.returns-else-not-meets-clause-few
 returns-else-not-meets-clause-few t c =
@@ -42,8 +36,8 @@ returns-else-not-meets-clause-few t c =
 
 pub returns-else-not-meets-clause-each : goal.returns-else-not-meets-clause-each
 returns-else-not-meets-clause-each t c = on_ok_weaker c.judge_run.result (λ last. run_judged c.args.report.now
-    c.judge_run.new.report (state_before c.args.before.now) c.deref-in-Run.result.now c.args.at c.args.asked.now.from
-    c.args.asked.now.to last c.judge_run.ensures.counted) c.judge_run.ensures.found
+    c.judge_run.new.report c.args.asked.now c.args.at (state_before c.args.before.now) c.deref-in-Run.result.now last
+    c.judge_run.ensures.counted) c.judge_run.ensures.found
 
 pub returns-then-len-asked : goal.returns-then-len-asked
 returns-then-len-asked t c =
@@ -53,8 +47,8 @@ returns-then-len-asked t c =
     let parts : a ++ b ≡ c.args.self.now.steps = sym (ap content_steps c.in-Both.is) ∙ same_steps c.self.view_is in
     let first = rw c.deref-in-Both-2.ensures at c.in_ok-resolve-in-Both.ensures in
     rw (← parts) (record {
-      found = stopped c.args.asked.now.most s a b c.args.at c.args.asked.now.from c.args.asked.now.to
-          c.args.report.now.found.items c.resolve.new.report.found.items first.found (omega arith);
+      found = rw (found_all c.args.asked.now c.args.at (length a) s a b c.args.report.now.found.items refl)
+          (stopped c.args.asked.now.most c.resolve.new.report.found.items _ _ first.found (omega arith));
       few = omega (arith, first.few, many_parts s a b);
       all = omega (arith, first.all, length-append a b);
       each = first.each;
@@ -63,26 +57,22 @@ returns-then-len-asked t c =
 pub returns-else-len-asked : goal.returns-else-len-asked
 returns-else-len-asked t c =
     let s : State = state_before c.args.before.now in
-    let most : ℕ = c.args.asked.now.most in
-    let from : ℕ = c.args.asked.now.from in
-    let to : ℕ = c.args.asked.now.to in
-    let at : ℕ = c.args.at in
     let old : List Found = c.args.report.now.found.items in
-    let found : List Found = c.resolve.new.report.found.items in
     let a : List Step = c.in-Both.a.value.steps in
     let b : List Step = c.in-Both.b.value.steps in
     let parts : a ++ b ≡ c.args.self.now.steps = sym (ap content_steps c.in-Both.is) ∙ same_steps c.self.view_is in
-    let len : c.len-in-Both.result ≡ length a = rw c.deref-in-Both-6.ensures at c.len-in-Both.ensures.count in
+    let len : c.len-in-Both.result ≡ length a = cc in
     let kept : IsKept c.unwrap-first.result.now a =
     rw (c.unwrap-first.ensures, c.deref-in-Both-3.ensures) at c.known-in-Both.ensures.kept in
     let ends = known_ends c.unwrap-first.result.now a kept.knows s in
     let first = rw c.deref-in-Both-2.ensures at c.in_ok-resolve-in-Both.ensures in
-    let all : found ≡ old ++ within from to (map (later at) (check s a)) =
-    not_many most found (old ++ within from to (map (later at) (check s a))) first.found (omega arith) in
+    let all = not_many c.args.asked.now.most c.resolve.new.report.found.items _ first.found (omega arith) in
     let more = rw (c.deref-in-Both-4.ensures, ends, c.deref-in-Both-5.ensures) at c.resolve-in-Both.ensures in
     rw (← parts) (record {
-      found = on_ok_weaker c.resolve-in-Both.result (λ last. parts_or_many most s a b at c.len-in-Both.result from to
-          old found c.resolve-in-Both.new.report.found.items len all last) more.found;
+      found = on_ok_weaker c.resolve-in-Both.result (λ last. rw (
+        found_all c.args.asked.now c.args.at c.len-in-Both.result s a b old len,
+        ← all,
+      ) last) more.found;
       few = on_ok_weaker c.resolve-in-Both.result (λ last. omega (arith, first.few, last, many_parts s a b)) more.few;
       all = on_ok_weaker c.resolve-in-Both.result (λ last. omega (arith, first.all, last, length-append a b)) more.all;
       each = on_ok_weaker c.resolve-in-Both.result (λ last. omega (arith, first.each, last)) more.each;

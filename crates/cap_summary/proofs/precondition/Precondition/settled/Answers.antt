@@ -1,6 +1,5 @@
 use Rattle.std.specs.Prelude.{◌≡◌, true, false, []}
-use Rattle.cap_summary.specs.{Names.has_cell}
-use Rattle.cap_summary.specs.Asks.{AskWithin, IsOpen, IsUnionOf, Within, Open}
+use Rattle.cap_summary.specs.{Names.has_cell, Asks.AskWithin, Asks.IsOpen, Asks.IsUnionOf, Asks.Within, Asks.Open}
 use Rattle.cap_summary.proofs.{All-nil}
 use Rattle.cap_summary.proofs.precondition.Precondition.settled.Goals as goal
 

@@ -1,5 +1,4 @@
-use Rattle.std.proofs.{lemmas.Iterator.YieldsList-from_slice, lemmas.Iterator.Search.any_from_yields_List}
-use Rattle.std.proofs.Common.{tests}
+use Rattle.std.proofs.{lemmas.Iterator.YieldsList-from_slice, lemmas.Iterator.Search.any_from_yields_List, Common.tests}
 use Rattle.std.specs.Prelude.{List}
 use Rattle.cap_summary.specs.{list_all, Asks.asks_of, Asks.are_sure_at, Tests.each_kind, declared.ask.Ask.Ask}
 use Rattle.cap_summary.proofs.{rules}

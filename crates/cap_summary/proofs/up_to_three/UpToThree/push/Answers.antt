@@ -1,5 +1,4 @@
-use Rattle.std.proofs.lemmas.Grind.{take-set_at}
-use Rattle.std.proofs.lemmas.List.{length-take}
+use Rattle.std.proofs.{lemmas.Grind.take-set_at, lemmas.List.length-take}
 use Rattle.std.specs.Prelude.{◌≡◌, ◌<◌, ◌+◌, ◌++◌, ◌∷◌, [], ℕ, List, length, min, set, take, refl}
 use Rattle.cap_summary.proofs.{arith}
 use Rattle.cap_summary.proofs.up_to_three.UpToThree.push.Goals as goal
