@@ -8,7 +8,7 @@ use Rattle.cap_summary.specs.Lines.{IsStarted, IsRowOf, is_cell}
 use Rattle.cap_summary.specs.Names.{Names, has_cell, IsListedWithin, LineWithin, RowWithin, RowsWithin, IsRowWithin}
 use Rattle.cap_summary.specs.{Names.EffectWithin}
 use Rattle.cap_summary.specs.Effects.{own_row, base_cell, row_cell, cell_in, changed}
-use Rattle.cap_summary.proofs.{Bor, take_all, list_any_more, or-false, or-true, eq-eqb, sym, subst, eqb-true, and_from}
+use Rattle.cap_summary.proofs.{Bor, list_any_more, or-false, or-true, eq-eqb, sym, subst, eqb-true, and_from}
 use Rattle.cap_summary.proofs.{All-head, All-tail, ap, ◌∙◌}
 
 one_more : (cells : Cells) (v : Value) (b any : Bool) (o : Option Value)
@@ -25,11 +25,6 @@ started_more fds i listed more within set started cells f =
     rw (set f, list_any_more (λ g. eqb f g) fds i 0 within)
     (one_more cells (Value.Held all Unsure) (eqb f (get_or fds i 0)) (list_any (λ g. eqb f g) (take i fds))
     (found listed f) (started cells f))
-
--- all of them
-pub started_all : (fds : List ℕ) (i : ℕ) (listed : List (ℕ × Value)) → length fds ≤ i → IsStarted (take i fds) listed
-    → IsStarted fds listed
-started_all fds i listed whole started = rw (take_all i fds whole) at started
 
 -- the row of a process that starts with just these
 pub started_row : (line : LineEffect) (fds : Bor (List ℕ)) (me : ℕ) (base : Base) (mode : Value) (listed : List (ℕ × Value))

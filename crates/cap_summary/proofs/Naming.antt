@@ -7,7 +7,7 @@ use Rattle.cap_summary.specs.Names.{line_names_fd, item_answers_fd, Names, IsLis
 use Rattle.cap_summary.specs.Names.{has_key, mode_within, IsRowWithin, EffectWithin, ChildWithin, LineWithin, PreWithin}
 use Rattle.cap_summary.specs.Names.{names_in, AreAmong, has_cell, RowWithin}
 use Rattle.cap_summary.proofs.{or_left as or_first, or_right as or_second, Bools.and_right, LineNamed.named_one_by_one}
-use Rattle.cap_summary.proofs.{◌∙◌, and_from, eq-eqb, list_any-append, Bools.and_left}
+use Rattle.cap_summary.proofs.{◌∙◌, or-true, and_from, eq-eqb, list_any-append, Bools.and_left}
 use Rattle.cap_machine.proofs.{NamedFds.named_checks, Naming.own_processes}
 use Rattle.std.specs.Prelude.{◌==◌, ◌||◌, ◌&&◌, ◌++◌, Bool, true, false, List, Option, Some, None, refl, cond, IfSome}
 use Rattle.std.specs.Prelude.{◌≡◌, ◌∷◌, ℕ, []}
@@ -82,14 +82,9 @@ module _ (t u : List Step) where
   }
 
 -- ---- a line, and what it asks
-not_kept : (b : Bool) (t : Touch) → (t ≡ kept → ⊥) → b ≡ true → cond b t kept ≡ kept → ⊥
-not_kept true t never is same = never same
-not_kept false t never is same = absurd cc
-
-not_either : (a b : Bool) (t u : Touch) → (t ≡ kept → ⊥) → (u ≡ kept → ⊥) → b ≡ true
-    → cond a t (cond b u kept) ≡ kept → ⊥
-not_either true b t u never other is same = never same
-not_either false b t u never other is same = not_kept b u other is same
+never_kept : (b : Bool) (p f : ℕ) → cond b (given Unknown) (taken same p f) ≡ kept → ⊥
+never_kept true p f is = cc
+never_kept false p f is = cc
 
 module _ (step : Step) (t : List Step) where
   abbrev named : Names
@@ -112,10 +107,10 @@ module _ (step : Step) (t : List Step) where
   child_in : (line : LineEffect) → ((p f : ℕ) → effect_touch line step.line.pid p f ≡ touch step p f)
       → ChildWithin named line
   child_in (LineEffect.Fork child) does = touched_in child (λ is.
-      not_kept (child == child) (taken same step.line.pid 0) (λ e. cc) (eq-eqb child child refl) (does child 0 ∙ is))
+      never_kept false step.line.pid 0 (rw (eq-eqb child child refl) at (does child 0 ∙ is)))
   child_in (LineEffect.ForkAs child g) does = touched_in child (λ is.
-      not_either ((child == step.line.pid || child == child) && 0 == g) (child == child) (given Unknown)
-      (taken same step.line.pid 0) (λ e. cc) (λ e. cc) (eq-eqb child child refl) (does child 0 ∙ is))
+      never_kept (0 == g) step.line.pid 0
+      (rw (eq-eqb child child refl, or-true (child == step.line.pid)) at (does child 0 ∙ is)))
   child_in _ does = tt
 
   pub line_in : (line : LineEffect) → ((p f : ℕ) → effect_touch line step.line.pid p f ≡ touch step p f)

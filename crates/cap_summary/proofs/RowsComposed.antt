@@ -8,7 +8,7 @@ use Rattle.cap_summary.proofs.{◌∙◌, and_from, not-true, Bools.and_left, Bo
 use Rattle.std.specs.Prelude.{ℕ, Bool, false, Option, Some, None, option_map, List, unwrap_or, option_and_then, is_none}
 use Rattle.std.specs.Prelude.{◌≡◌, ◌&&◌, ◌||◌, not, true, refl}
 
-pub map_or_is : {X : Type 0} (g : X → Cell) (o : Option X) (d : Cell) → option_map_or g o d ≡ unwrap_or (option_map g o) d
+map_or_is : {X : Type 0} (g : X → Cell) (o : Option X) (d : Cell) → option_map_or g o d ≡ unwrap_or (option_map g o) d
 map_or_is g None d = refl
 map_or_is g (Some x) d = refl
 
@@ -27,27 +27,20 @@ module _ (cells after : Cells) (p : ℕ) (passing : Passing) (base : Base) (rest
   cases None None false is closed below = below is
   cases None (Some v) false is closed below = let here = rw is at (below is) in rw is here
 
--- a descriptor's cell after two segments, where `new` lists what the second lists and what it is handed on
-pub composed_cell : (first : Effect) (p : ℕ) (base base' : Base) (passing : Passing)
-    (listed handed new : List (ℕ × Value)) (cells : Cells) (f : ℕ)
-    → IsHandedSo first passing base.closed_from f (found listed f) (found handed f) (found new f)
-    → (is_from base.closed_from f ≡ true → base_cell cells p base' f ≡ Closed)
-    → (is_from base.closed_from f ≡ false → option_map_or (λ v. passed passing (read cells v)) (found handed f)
-    (base_cell cells p base' f) ≡ base_cell (changed first cells) p base f)
-    → option_map_or (read cells) (found new f) (base_cell cells p base' f)
-    ≡ option_map_or (read (changed first cells)) (found listed f) (base_cell (changed first cells) p base f)
-composed_cell first p base base' passing listed handed new cells f is_handed closed below =
-    map_or_is (read cells) (found new f) (base_cell cells p base' f)
-    ∙ rw (is_handed.cells cells) (cases cells (changed first cells) p passing base (base_cell cells p base' f) f
-    (found listed f) (found handed f) (is_from base.closed_from f) refl closed below)
-
--- a row, by its mode and its descriptors
-pub composed_row : (first : Effect) (p : ℕ) (row new : Row)
+-- a row after two segments, where `new` lists what the second lists and what it is handed on
+pub composed_row : (first : Effect) (p : ℕ) (row new : Row) (passing : Passing) (handed : List (ℕ × Value))
     → ((cells : Cells) → row_cell cells p new Key.Mode ≡ row_cell (changed first cells) p row Key.Mode)
-    → ((cells : Cells) (f : ℕ) → row_cell cells p new (Key.Fd f) ≡ row_cell (changed first cells) p row (Key.Fd f))
+    → ((f : ℕ) → IsHandedSo first passing row.base.closed_from f (found row.cells f) (found handed f) (found new.cells f))
+    → ((cells : Cells) (f : ℕ) → is_from row.base.closed_from f ≡ true → base_cell cells p new.base f ≡ Closed)
+    → ((cells : Cells) (f : ℕ) → is_from row.base.closed_from f ≡ false
+    → option_map_or (λ v. passed passing (read cells v)) (found handed f) (base_cell cells p new.base f)
+    ≡ base_cell (changed first cells) p row.base f)
     → IsRowAfter first p row new
-composed_row first p row new mode cell cells Key.Mode = mode cells
-composed_row first p row new mode cell cells (Key.Fd f) = cell cells f
+composed_row first p row new passing handed mode each closed below cells Key.Mode = mode cells
+composed_row first p row new passing handed mode each closed below cells (Key.Fd f) =
+    map_or_is (read cells) (found new.cells f) (base_cell cells p new.base f)
+    ∙ rw ((each f).cells cells) (cases cells (changed first cells) p passing row.base (base_cell cells p new.base f) f
+    (found row.cells f) (found handed f) (is_from row.base.closed_from f) refl (closed cells f) (below cells f))
 
 -- a descriptor that isn't listed after both is listed in the second one nowhere, and is closed there or not handed on
 unlisted_in_both : (listed handed new closed : Bool) → new ≡ (listed && (handed || closed)) → new ≡ true

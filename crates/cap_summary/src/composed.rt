@@ -9,6 +9,7 @@ ghost use Rattle.cap_summary.specs.Names.{Names, others_within, mode_within, Lis
 ghost use Rattle.cap_summary.specs.Names.{ReadWithin};
 
 use crate::base::lower_of;
+use crate::reading::counted;
 use crate::sorted::{Combine, merge};
 use crate::{Base, DefaultCells, Effect, Listed, Passing, Row, SharedRow, Value};
 use cap_trace::Pid;
@@ -268,6 +269,7 @@ impl Effect {
     {
         let step = Composing { first: self, old };
         let rows = merge(alloc, &step, self.rows.entries(), later.rows.entries())?;
-        Ok(Effect::of(rows))
+        let size = Some(counted(rows.entries()));
+        Ok(Effect { rows, size })
     }
 }

@@ -32,10 +32,7 @@ impl Clone for Listed {
     ghost is_clone = { λ listed copy. copy ≡ listed };
 
     fn clone(&self) -> Result<Listed, AllocError> {
-        let cells = match &self.cells {
-            Some(cells) => Some(cells.clone()?),
-            None => None,
-        };
+        let cells = self.cells.clone()?;
         Ok(Listed { cells })
     }
 }

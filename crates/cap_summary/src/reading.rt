@@ -6,13 +6,13 @@ ghost use Rattle.cap_summary.specs.{Effects.leaves, Keys.Cells};
 ghost use Rattle.cap_summary.specs.{Names.Names, Names.RowWithin, RowSizes.IsSizeOf, Sorted.found, Sorted.Rises};
 ghost use Rattle.cap_summary.specs.{declared.key.Key.Key};
 
-use crate::{Base, DefaultCells, Effect, Key, Listed, Map, Passing, Row, SharedRow, Value};
+use crate::{Base, DefaultCells, Effect, Key, Listed, Passing, Row, SharedRow, Value};
 use cap_trace::Pid;
 use cap_tree::NoMemory;
 use std::alloc::AllocError;
 
 /// How many rows there are, and cells that they list, as far as they can be counted.
-fn counted(rows: &[(u32, SharedRow)]) -> usize
+pub(crate) fn counted(rows: &[(u32, SharedRow)]) -> usize
     requires { Rises rows.now }
     ensures { IsSizeOf rows.now result }
 {
@@ -43,10 +43,7 @@ impl Row {
         ensures { result ≡ own_row }
     {
         Row {
-            base: Base {
-                others: DefaultCells::Own,
-                closed_from: None,
-            },
+            base: Base::of(DefaultCells::Own),
             mode: None,
             cells: Listed::empty(),
         }
@@ -139,13 +136,5 @@ impl Effect {
             Some(size) => size,
             None => counted(self.rows.entries()),
         }
-    }
-
-    /// The effect of these rows, with its size.
-    pub(crate) fn of(rows: Map<SharedRow>) -> Effect
-        ensures { result.rows ≡ rows }
-    {
-        let size = Some(counted(rows.entries()));
-        Effect { rows, size }
     }
 }

@@ -116,9 +116,7 @@ impl Effect {
             → reads_within (has_cell names) v ≡ true) }
     {
         let view = match value {
-            Value::Unknown => return Ok(Value::Unknown),
-            Value::Closed => return Ok(Value::Closed),
-            Value::Held(rights, flag) => return Ok(Value::Held(*rights, *flag)),
+            Value::Unknown | Value::Closed | Value::Held(..) => return Ok(value.clone()?),
             Value::Same(pid, key) => self.view(*pid, *key),
             Value::Of(pid, key, op) => return self.view(*pid, *key).then(alloc, op),
         };

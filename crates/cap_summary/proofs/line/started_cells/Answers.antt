@@ -1,7 +1,7 @@
-use Rattle.std.specs.Prelude.{◌≡◌, ℕ, List, get_or, refl}
-use Rattle.cap_summary.specs.{all as all_rights, Unsure, Lines.IsStarted, Names.IsListedWithin}
+use Rattle.std.specs.Prelude.{◌≡◌, ℕ, get_or, refl}
+use Rattle.cap_summary.specs.{all as all_rights, Unsure, Names.IsListedWithin}
 use Rattle.cap_summary.specs.{declared.value.Value.Value}
-use Rattle.cap_summary.proofs.{sym, subst, IfOk-weaker, LineListed.started_more, LineListed.started_all}
+use Rattle.cap_summary.proofs.{take_all, IfOk-weaker, LineListed.started_more}
 use Rattle.cap_summary.proofs.{LineListed.each_put}
 use Rattle.cap_summary.proofs.line.started_cells.Goals as goal
 
@@ -18,13 +18,9 @@ loop-fd-preserved c = record {
 }
 
 pub returns-clause-cells : goal.returns-clause-cells
-returns-clause-cells c =
-    let started = started_all c.deref-fd-items.result.now c.loop-fd.fd-index c.loop-fd.listed c.loop-fd-test.false
-    c.loop-fd.invariant.cells in
-    let all = rw (c.deref-fd-items.ensures.value, c.in-Ok.ensures) at started in
-    let P : List (ℕ × Value) → Type 0 = IsStarted _ in
-    IfOk-weaker c.of.result (λ listed. listed ≡ c.loop-fd.listed) P (λ listed is. subst P (sym is) all)
-    c.of.ensures
+returns-clause-cells c = IfOk-weaker c.of.result _ _ (λ listed is.
+    rw is (rw (c.deref-fd-items.ensures.value, c.in-Ok.ensures) at (rw (take_all c.loop-fd.fd-index
+    c.deref-fd-items.result.now c.loop-fd-test.false) at c.loop-fd.invariant.cells))) c.of.ensures
 
 pub returns-clause-names : goal.returns-clause-names
 returns-clause-names c = IfOk-weaker c.of.result _ _ (λ listed is names all.

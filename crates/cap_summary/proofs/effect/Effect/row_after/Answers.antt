@@ -1,5 +1,5 @@
 use Rattle.cap_summary.specs.{declared.effect.Row.Row}
-use Rattle.cap_summary.proofs.RowsComposed.{composed_cell, composed_row, composed_leaves}
+use Rattle.cap_summary.proofs.RowsComposed.{composed_row, composed_leaves}
 use Rattle.cap_summary.proofs.effect.Effect.row_after.Goals as goal
 
 pub returns : goal.returns
@@ -12,9 +12,8 @@ returns c =
     let mode = c.in_ok-mode.ensures in
     let new : Row = record { base = handed.handed.base; mode = c.in_ok-mode.mode; cells = listed.cells } in
     record {
-      cells = composed_row first p row new mode.reads (λ cells f. composed_cell first p row.base new.base
-          handed.handed.passing row.cells handed.handed.cells new.cells cells f (listed.ensures f)
-          (handed.ensures.closed cells f) (handed.ensures.«open» cells f));
+      cells = composed_row first p row new handed.handed.passing handed.handed.cells mode.reads listed.ensures
+          handed.ensures.closed handed.ensures.«open»;
       leaves = composed_leaves first p row new handed.handed.passing handed.handed.cells mode.leaves
           handed.ensures.leaves listed.ensures;
       names = λ names of read here own. record {
