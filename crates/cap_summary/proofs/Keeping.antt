@@ -1,18 +1,17 @@
 -- What is known is kept where few processes and descriptors are named, unless many calls were refused.
-use Rattle.std.proofs.{Math.Nat.mul-le-mul_right}
-use Rattle.std.specs.Prelude.{◌≡◌, ◌+◌, ◌*◌, ◌<◌, ◌≤◌, ◌⊎◌, ◌∷◌, ◌++◌, ℕ, List, [], length, Bool, true, false, cond}
-use Rattle.std.specs.Prelude.{eqb, Option, Some, None, refl, IfSome, IfNone, is_some, nat_le, All}
-use Rattle.cap_summary.specs.{Step, Content.KeepsParts, Knows.Knows, Preconditions.IsSettled, declared.effect.Row.Row}
-use Rattle.cap_summary.specs.{declared.known.Known.Known, declared.node.Content.Content, LineAsks.refused}
-use Rattle.cap_summary.specs.declared.node.Content.TheVariants.{Run, Both}
+use Rattle.cap_summary.specs.{Step, Preconditions.IsSettled, declared.known.Known.Known, declared.node.Content.Content}
+use Rattle.cap_summary.specs.{Content.KeepsParts, Knows.Knows, declared.effect.Row.Row, LineAsks.refused}
 use Rattle.cap_summary.specs.Kept.{is_one, these, room, NameOrRefuseMany, limit, IsKept, IsWithin, IsLarge, ListsMany}
 use Rattle.cap_summary.specs.Names.{names_in, AreAmong, IsListedWithin, IsRowWithin, ListWithin, RowsWithin}
-use Rattle.cap_summary.specs.RowSizes.{rows_size, CellsRise, AllRise}
 use Rattle.cap_summary.specs.Sorted.{found, Rises, RisesFrom, KeysRise}
-use Rattle.cap_summary.proofs.{inl, inr, arith, eqb-true, eq-eqb, nat_tests, All-head, All-tail, FewAsks.few_asks}
-use Rattle.cap_summary.proofs.{FewKeys.few_keys, Knowing.refused_parts}
-use Rattle.cap_summary.proofs.SortedFound.{found_below, rises_again}
+use Rattle.cap_summary.specs.RowSizes.{rows_size, CellsRise, AllRise}
+use Rattle.cap_summary.specs.declared.node.Content.TheVariants.{Run, Both}
+use Rattle.cap_summary.proofs.{inl, nat_tests, Knowing.refused_parts, SortedFound.found_below, SortedFound.rises_again}
+use Rattle.cap_summary.proofs.{inr, arith, eqb-true, eq-eqb, All-head, All-tail, FewAsks.few_asks, FewKeys.few_keys}
 use Rattle.cap_summary.proofs.Naming.{effect_among, asks_among, first_among, second_among}
+use Rattle.std.specs.Prelude.{List, length, Bool, false, cond, Option, Some, None, IfSome, IfNone, is_some, nat_le, All}
+use Rattle.std.specs.Prelude.{◌≡◌, ◌+◌, ◌*◌, ◌<◌, ◌≤◌, ◌⊎◌, ◌∷◌, ◌++◌, ℕ, [], true, eqb, refl}
+use Rattle.std.proofs.{Math.Nat.mul-le-mul_right}
 
 -- ---- rows among these processes, which list these descriptors
 

@@ -2,7 +2,7 @@
 use Rattle.cap_summary.specs.{fds_spelled, ResultKind, LineEffect, effect_touch, Names.answers_fd, Names.line_names_fd}
 use Rattle.cap_summary.specs.{list_any, Answer, Count, FdPair, kind_of, Unknown, Touch, given, taken, started, fds_of}
 use Rattle.cap_summary.specs.{Item, Fd, Same, Cell, Op, Step, same, kept, touch}
-use Rattle.cap_summary.proofs.{sym, ap, ◌∙◌, arith, ne_eqb, eq-eqb, or_left, or_right, or-false, All-nil, All-cons}
+use Rattle.cap_summary.proofs.{sym, ap, ◌∙◌, arith, ne_eqb, eq-eqb, or_left, or_right, or-false, common_steps, All-nil, All-cons}
 use Rattle.cap_machine.specs.{Named.arg_names, Named.answer_names, Named.is_fork, declared.cell.Profile.Profile}
 use Rattle.cap_machine.specs.Touch.{fd_touch, path_touch, bare_touch, call_touch, pdfork_touch}
 use Rattle.cap_machine.specs.declared.cell.Profile.TheVariants.{One, Two}
@@ -220,20 +220,12 @@ module _ (profile : Profile) (me : ℕ) (line : LineEffect) where
       free : (none child mine : Bool) (f : ℕ)
           → cond none kept (cond ((mine || child) && false) (given Unknown) (cond child (taken same me f) kept))
           ≡ cond (not none && child) (taken same me f) kept
-      free true child mine f = refl
-      free false true true f = refl
-      free false true false f = refl
-      free false false true f = refl
-      free false false false f = refl
+      free none child mine f = grind (arith, common_steps)
 
       bound : (none child mine : Bool) (f : ℕ) (op : Op) (q g : ℕ)
           → cond none kept (cond ((mine || child) && true) (given Unknown) (cond child (taken same me f) kept))
           ≡ taken op q g → ⊥
-      bound true child mine f op q g is = cc
-      bound false true true f op q g is = cc
-      bound false true false f op q g is = cc
-      bound false false true f op q g is = cc
-      bound false false false f op q g is = cc
+      bound none child mine f op q g is = grind (arith, common_steps)
   fork_named Fork (Answer.Pair c e) is does = no_fds Fork (Answer.Pair c e) (λ p. false) (λ p f. refl) does
   fork_named Vfork (Answer.Pair c e) is does = no_fds Vfork (Answer.Pair c e) (λ p. false) (λ p f. refl) does
   fork_named Pdfork (Answer.Made c) is does = no_fds Pdfork (Answer.Made c) (λ p. false) (λ p f. refl) does

@@ -2,7 +2,7 @@
 use Rattle.std.specs.Prelude.{set, insert, remove, false}
 use Rattle.std.specs.Prelude.{◌≡◌, ◌+◌, ◌<◌, ◌≤◌, ◌∷◌, if◌then◌else◌, ℕ, zero, suc, eqb, List, [], Some}
 use Rattle.cap_summary.specs.Sorted.{IsAt, IsGap, found, RisesFrom}
-use Rattle.cap_summary.proofs.{arith, nat_tests, SortedFound.rises_at, SortedFound.is_at_tail}
+use Rattle.cap_summary.proofs.{arith, nat_tests, SortedFound.rises_at, SortedFound.is_at_tail, SortedFound.found_at}
 use Rattle.cap_summary.proofs.{SortedMerging.RisesFrom-lower}
 
 gap_tail : {V : Type 0} (x : ℕ × V) (l : List (ℕ × V)) (key at : ℕ) → IsGap (x ∷ l) key (suc at) → IsGap l key at
@@ -74,7 +74,7 @@ found-remove ((j, u) ∷ rest) key (suc at) is_at q other =
     grind (arith, nat_tests, later)
 
 -- what taking out the value at a key leaves
-pub ruleset takes = (found-remove)
+pub ruleset takes = (found-remove, RisesFrom-remove, found_at)
 
 -- what a value that is put at a key changes
-pub ruleset puts = (found-insert, found-set)
+pub ruleset puts = (found-insert, found-set, RisesFrom-insert, RisesFrom-set)

@@ -45,6 +45,7 @@ fn turned(mode: Mode) -> Value
 
 impl Row {
     /// What a line of process `me`, which sets no cell to a value of its own, makes of the process.
+    #[tactic(auto, using(crate::proofs::LineListed::started_row))]
     fn of_line(alloc: Global, me: Pid, line: &LineEffect<'_>) -> Result<Row, NoMemory>
         requires { sets_cells line.now ≡ false }
         ensures cells { IfOk result (λ row. IsRowOf line.now me row) }
@@ -142,7 +143,7 @@ impl Effect {
     }
 
     /// Sets the cell of a descriptor of a process, in place.
-    #[tactic(auto, using(crate::proofs::LineListed::set_cells))]
+    #[tactic(auto, using(crate::proofs::LineListed::set_cells, crate::proofs::LineListed::set_names))]
     fn set(&mut self, alloc: Global, pid: Pid, fd: Fd, value: Value) -> Result<(), NoMemory>
         ensures cells { OnOk result ((cells : Cells) (p : ℕ) (k : Key) → changed self.new cells p k
             ≡ (if is_cell pid fd p k then read cells value else changed self.old cells p k)) }

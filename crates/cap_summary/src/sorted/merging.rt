@@ -79,6 +79,7 @@ fn first_key<L, R>(lefts: &[(u32, L)], rights: &[(u32, R)]) -> Option<u32>
 }
 
 /// The value at a key that no entry is below, and the entries above it.
+#[tactic(auto, using(crate::proofs::SortedFound::found_below_first, crate::proofs::SortedFound::found_nowhere))]
 fn split_key<V>(entries: &[(u32, V)], key: u32) -> (Option<&V>, &[(u32, V)])
     requires { RisesFrom key entries.now }
     ensures value { option_copied result.0 ≡ found entries.now key }

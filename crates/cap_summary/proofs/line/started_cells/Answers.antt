@@ -1,8 +1,6 @@
+use Rattle.cap_summary.specs.{all as all_rights, Unsure, Names.IsListedWithin, declared.value.Value.Value}
+use Rattle.cap_summary.proofs.{take_all, IfOk-weaker, LineListed.started_more, LineListed.each_put}
 use Rattle.std.specs.Prelude.{◌≡◌, ℕ, get_or, refl}
-use Rattle.cap_summary.specs.{all as all_rights, Unsure, Names.IsListedWithin}
-use Rattle.cap_summary.specs.{declared.value.Value.Value}
-use Rattle.cap_summary.proofs.{take_all, IfOk-weaker, LineListed.started_more}
-use Rattle.cap_summary.proofs.{LineListed.each_put}
 use Rattle.cap_summary.proofs.line.started_cells.Goals as goal
 
 pub loop-fd-preserved : goal.loop-fd-preserved
