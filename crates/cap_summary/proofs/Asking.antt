@@ -1,14 +1,12 @@
 -- Asks that hold in every state, in none, or in some.
-use Rattle.std.specs.Prelude.{◌≡◌, ◌&&◌, ◌||◌, ◌∷◌, if◌then◌else◌, ℕ, true, false, refl, Bool, List, []}
-use Rattle.std.specs.Prelude.{not}
+use Rattle.std.specs.Prelude.{◌≡◌, ◌&&◌, ◌||◌, ◌∷◌, if◌then◌else◌, ℕ, true, false, refl, Bool, List, [], not}
 use Rattle.cap_summary.specs.{list_all, none, has_all, OnExec, Set, Clear, Unsure, Cell, Unknown, Closed, Held, Mode}
 use Rattle.cap_summary.specs.{Inside, Outside, State, declared.ask.Ask.Ask, declared.key.Key.Key}
 use Rattle.cap_summary.specs.{declared.kinds.Kinds.Kinds, Keys.Cells, Keys.mode_cell, Keys.cell_mode, Keys.cells_of}
 use Rattle.cap_summary.specs.Asks.{standing, is_sure, certain_at, possible_at, IsOpen}
 use Rattle.cap_summary.specs.Tests.{has, has_kind, held_kind, lacks, any_held, any_kind, holding, passes, each_kind}
-use Rattle.cap_summary.proofs.{inl, inr, ap, ◌∙◌, arith, or-true, or_parts}
-use Rattle.cap_summary.proofs.{or_cases, TestPassing.own_rights, TestPassing.none_lacks}
-use Rattle.cap_summary.proofs.Bools.{and_left, and_right}
+use Rattle.cap_summary.proofs.{inl, inr, ap, ◌∙◌, arith, or-true, or_parts, or_cases, Bools.and_left, Bools.and_right}
+use Rattle.cap_summary.proofs.TestPassing.{own_rights, none_lacks}
 
 -- the state in which each cell and each mode is as given
 abbrev everywhere : Cell → Mode → State

@@ -1,11 +1,10 @@
 -- What was judged of a run so far, and how many steps are judged at least for what is found.
 use Rattle.cap_machine.proofs.Turns.{same_state}
-use Rattle.std.specs.Prelude.{◌≡◌, ℕ, List, refl, ◌+◌, ◌∷◌, ◌++◌, [], length, map, ◌≤◌, ◌&&◌, nat_le, Bool}
-use Rattle.std.specs.Prelude.{cond}
-use Rattle.cap_summary.specs.{Step, Mode, State, ended, declared.effect.Effect.Effect}
-use Rattle.cap_summary.specs.{declared.key.Key.Key, declared.known.Known.Known, Found, said, found_at, Rc}
-use Rattle.cap_summary.specs.{Finding, values, declared.judging.Asked.Asked, declared.judging.Report.Report, Effects.changed, Knows.Knows}
-use Rattle.cap_summary.specs.Keys.{state_of, cells_of, mode_cell, cell_mode, Cells}
+use Rattle.std.specs.Prelude.{◌≡◌, ℕ, List, refl, ◌+◌, ◌∷◌, ◌++◌, [], length, map, ◌≤◌, ◌&&◌, nat_le, Bool, cond}
+use Rattle.cap_summary.specs.{Step, Mode, State, ended, Found, said, found_at, Rc, Finding, values}
+use Rattle.cap_summary.specs.{declared.effect.Effect.Effect, declared.key.Key.Key, declared.known.Known.Known}
+use Rattle.cap_summary.specs.{declared.judging.Asked.Asked, declared.judging.Report.Report, Effects.changed}
+use Rattle.cap_summary.specs.{Knows.Knows, Keys.state_of, Keys.cells_of, Keys.mode_cell, Keys.cell_mode, Keys.Cells}
 use Rattle.cap_summary.specs.Positions.{said_in, found_in, starts, positions, WereJudged}
 use Rattle.cap_summary.proofs.{ap, ◌∙◌, sym, append-nil, arith, eq-eqb, length-map}
 use Rattle.cap_summary.proofs.Resolving.{said_at, found_all, found_parts, one_found}

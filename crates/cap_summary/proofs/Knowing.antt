@@ -1,17 +1,16 @@
 -- What a summary says after one more step, or one more segment.
 use Rattle.cap_machine.specs.{History.turned, Code.Table.step_after}
-use Rattle.cap_machine.proofs.{Turns.ends_more}
+use Rattle.cap_machine.proofs.Turns.{ends_more}
 use Rattle.std.specs.Prelude.{◌≡◌, ◌∷◌, ◌++◌, ◌+◌, ◌<◌, ◌||◌, ◌≤◌, if◌then◌else◌, ℕ, List, [], false, length, map}
 use Rattle.std.specs.Prelude.{get_or, take}
-use Rattle.cap_summary.specs.{Rc, values, Step, LineEffect, State, requirement, Turn, kept, stays}
-use Rattle.cap_summary.specs.{touch, turn, effect_touch, effect_turn, touched, ended, check, said, found_at, later}
-use Rattle.cap_summary.specs.{Asks.AreWithin, Composing.IsJoined, Effects.changed, LineAsks.is_refusal, LineAsks.refused, Keys.Cells}
-use Rattle.cap_summary.specs.{Keys.mode_cell, Keys.cells_of, Effects.LineLeaves, Effects.LeavesThenLine}
-use Rattle.cap_summary.specs.{declared.effect.Effect.Effect, declared.key.Key.Key, declared.known.Known.Known}
-use Rattle.cap_summary.specs.{declared.line_asks.LineAsks.LineAsks, declared.precondition.Precondition.Precondition}
-use Rattle.cap_summary.specs.Knows.{Says, Knows, StepsLeave}
-use Rattle.cap_summary.specs.LineAsks.{asked_holds, asks_in, refusals_in, has_any}
-use Rattle.cap_summary.specs.Lines.{turned_cell, line_after, IsThenLine}
+use Rattle.cap_summary.specs.{Rc, values, Step, LineEffect, State, requirement, Turn, kept, stays, touch, turn}
+use Rattle.cap_summary.specs.{effect_touch, effect_turn, touched, ended, check, said, found_at, later, Asks.AreWithin}
+use Rattle.cap_summary.specs.{Composing.IsJoined, Effects.changed, Effects.LineLeaves, Effects.LeavesThenLine}
+use Rattle.cap_summary.specs.{Keys.Cells, Keys.mode_cell, Keys.cells_of, declared.effect.Effect.Effect}
+use Rattle.cap_summary.specs.{declared.key.Key.Key, declared.known.Known.Known, declared.line_asks.LineAsks.LineAsks}
+use Rattle.cap_summary.specs.{declared.precondition.Precondition.Precondition, Knows.Says, Knows.Knows}
+use Rattle.cap_summary.specs.{Knows.StepsLeave, Lines.turned_cell, Lines.line_after, Lines.IsThenLine}
+use Rattle.cap_summary.specs.LineAsks.{is_refusal, refused, asked_holds, asks_in, refusals_in, has_any}
 use Rattle.cap_summary.specs.Names.{Names, names_in, has_cell, AreAmong, EffectWithin, LineWithin, PreWithin}
 use Rattle.cap_summary.specs.Preconditions.{is_met, IsWithMore, IsPossible, asks_size}
 use Rattle.cap_summary.proofs.{sym, ap, ◌∙◌, arith, length-append, map-append, take_more, All-nil, All-cons, All-append}

@@ -1,18 +1,15 @@
 -- Asks of a later segment, pulled back through the effect of a first one.
-use Rattle.std.specs.{declared.vec.Vec.Vec}
-use Rattle.std.specs.Prelude.{◌≡◌, ◌∷◌, ◌++◌, ◌||◌, ◌+◌, ◌<◌, List, [], true, false, ℕ}
-use Rattle.std.specs.Prelude.{length, get_or, take, drop, refl, All, Option, Some, None}
-use Rattle.cap_summary.specs.{list_any, State, Global, Keys.Cells, Keys.cells_of}
-use Rattle.cap_summary.specs.{Effects.row_leaves, Sorted.found}
-use Rattle.cap_summary.specs.{declared.ask.Ask.Ask}
+use Rattle.std.specs.declared.vec.Vec.{Vec}
+use Rattle.std.specs.Prelude.{◌≡◌, ◌∷◌, ◌++◌, ◌||◌, ◌+◌, ◌<◌, List, [], true, false, ℕ, length, get_or, take, drop}
+use Rattle.std.specs.Prelude.{refl, All, Option, Some, None}
+use Rattle.cap_summary.specs.{list_any, State, Global, Keys.Cells, Keys.cells_of, Sorted.found, declared.ask.Ask.Ask}
 use Rattle.cap_summary.specs.{declared.effect.Effect.Effect, declared.effect.Row.Row, declared.key.Key.Key}
-use Rattle.cap_summary.specs.{declared.precondition.Precondition.Precondition}
-use Rattle.cap_summary.specs.{declared.up_to_three.UpToThree.UpToThree}
+use Rattle.cap_summary.specs.{declared.precondition.Precondition.Precondition, declared.up_to_three.UpToThree.UpToThree}
+use Rattle.cap_summary.specs.Effects.{row_leaves, row_cell, changed}
 use Rattle.cap_summary.specs.Asks.{place, holds, any_holds, IsOpen, AskWithin, Rises, IsUnionOf, IsUnion, Within, Open}
-use Rattle.cap_summary.specs.Effects.{row_cell, changed}
 use Rattle.cap_summary.specs.Names.{Names, has_cell, EffectWithin, RefusalsWithin, PreWithin}
-use Rattle.cap_summary.specs.Preconditions.{is_met, is_wrongful, IsPulledBack, AreAskedByBoth, IsAskedByOne, IsAskedByBoth}
-use Rattle.cap_summary.specs.Preconditions.{IsPossible, IsSettled, IsWithMore, asks_size}
+use Rattle.cap_summary.specs.Preconditions.{is_met, is_wrongful, IsPulledBack, AreAskedByBoth, IsAskedByOne}
+use Rattle.cap_summary.specs.Preconditions.{IsAskedByBoth, IsPossible, IsSettled, IsWithMore, asks_size}
 use Rattle.cap_summary.proofs.{sym, ap, ◌∙◌, subst, arith, length-append, take_more, list_any-append, All-push}
 use Rattle.cap_summary.proofs.{All-head, or-false, or_comm}
 use Rattle.cap_summary.proofs.Uniting.{all_left, all_right, rises_put, rises_without, drop_here}

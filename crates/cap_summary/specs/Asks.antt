@@ -40,14 +40,10 @@ abbrev pub possible_at : Key → Ask → Bool
 possible_at Key.Mode ask = passes ask (mode_cell Mode.Unsure) || (passes ask (mode_cell Inside) || passes ask (mode_cell Outside))
 possible_at (Key.Fd f) ask = any_kind ask.kinds || (any_held ask.lacking && not (has_all none ask.rights))
 
--- in some state an ask holds, or doesn't
-abbrev pub CanBe : Bool → Ask → Type 0
-CanBe answer ask = (s : State) × (holds (cells_of s) ask ≡ answer)
-
 -- whether an ask holds depends on the state
 pub record IsOpen (ask : Ask) : Type 0 where
-  pub holds : CanBe true ask
-  pub fails : CanBe false ask
+  pub fails : (s : State) × (holds (cells_of s) ask ≡ false)
+  pub holds : (s : State) × (holds (cells_of s) ask ≡ true)
 
 -- an ask that was pulled back holds
 abbrev pub pulled_holds : Cells → Pulled → Bool

@@ -24,10 +24,6 @@ abbrev pub is_met : Cells → Precondition → Bool
 is_met cells pre =
     pre.certain || (any_holds cells pre.asks.items || list_any (is_wrongful cells) pre.refusals.items)
 
--- with one more reason, by the state before the segment
-abbrev pub IsMetOr : Precondition → Precondition → (Cells → Bool) → Type 0
-IsMetOr old new more = (s : State) → is_met (cells_of s) new ≡ (is_met (cells_of s) old || more (cells_of s))
-
 -- whether a refusal is wrongful depends on the state, and so does whether each of its asks holds
 pub record RefusalIsOpen (refusal : UpToThree) : Type 0 where
   pub asks : All IsOpen (asks_of refusal)
@@ -50,7 +46,7 @@ pub record IsSettled (pre : Precondition) : Type 0 where
 -- refusals more, and so many refusals
 pub record IsWithMore (first : Effect) (more : Cells → Bool) (within : Names → Type 0) (size most : ℕ)
     (old new : Precondition) : Type 0 where
-  pub met : IsMetOr old new (λ cells. more (changed first cells))
+  pub met : (s : State) → is_met (cells_of s) new ≡ (is_met (cells_of s) old || more (changed first (cells_of s)))
   pub possible : IsPossible old → IsPossible new
   pub names : (names : Names) → EffectWithin names first → within names → PreWithin names old → PreWithin names new
   pub few : asks_size new ≤ asks_size old + size

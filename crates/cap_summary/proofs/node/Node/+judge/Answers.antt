@@ -1,7 +1,6 @@
 use Rattle.std.proofs.Common.{rules}
 use Rattle.std.specs.Prelude.{◌≡◌, ◌+◌, ◌++◌, List, length, refl}
-use Rattle.cap_summary.specs.{Step, State, start_state, values, Content.content_steps}
-use Rattle.cap_summary.specs.{declared.judging.Report.Report}
+use Rattle.cap_summary.specs.{Step, State, start_state, values, Content.content_steps, declared.judging.Report.Report}
 use Rattle.cap_summary.proofs.{sym, ap, ◌∙◌, arith, length-append, on_ok_weaker, Judged.run_judged, Runs.same_steps}
 use Rattle.cap_summary.proofs.Agreeing.{agree_same, judged_both, none_judged, noted_parts}
 use Rattle.cap_summary.proofs.node.Node.+judge.Goals as goal
