@@ -10,11 +10,11 @@ use Rattle.capcheck.specs.declared.plan.Task.{Task}
 
 -- both texts were opened, and then the task was done
 pub performed : {R : Type 0} (state : R → SourceState) (known : Option Text → Known) (run : NamedRun) (task : Task)
-    (z0 z1 r0 r1 : R) (w0 w1 : SinkState) (outcome : ExplainOutcome) → run.task ≡ task
+    (z0 z1 r0 r1 : R) (w0 w1 : SinkState) (outcome : ExplainOutcome)
+    → TaskStreams run.profile task (state z0) (state z1) (state r0) (state r1) w0 w1 outcome → run.task ≡ task
     → Gives (known_beside known run.beside) (state z0).bytes → Gives (known run.trace) (state r0).bytes
-    → TaskStreams run.profile task (state z0) (state z1) (state r0) (state r1) w0 w1 outcome
     → RunsText state known run w0 w1 outcome
-performed state known run task z0 z1 r0 r1 w0 w1 outcome is beside trace done = inr (record {
+performed state known run task z0 z1 r0 r1 w0 w1 outcome done is beside trace = inr (record {
   z0 = z0;
   z1 = z1;
   r0 = r0;
