@@ -43,8 +43,8 @@ pub record Unopened (may_fail : Type 0) (w0 w1 : SinkState) (outcome : ExplainOu
   pub silent : w1 ≡ w0
   pub fault : outcome ≡ Ended ReadFault
 
--- Two texts of which this is known were opened, the one beside the trace as z and the trace as r, and then they were
--- read so: each from its state at first to its state at the end. Both are readers of the texts' own type R, which has
+-- Two texts with these known bytes were opened, the one beside the trace as z and the trace as r. Then they were read
+-- so: each from its state at first to its state at the end. Both are readers of the texts' own type R, which has
 -- this state.
 pub record OpensBoth {R : Type 0} (state : R → SourceState) (beside trace : Known)
     (P : SourceState → SourceState → SourceState → SourceState → Type 0) : Type 0 where
@@ -56,7 +56,7 @@ pub record OpensBoth {R : Type 0} (state : R → SourceState) (beside trace : Kn
   pub trace_text : Gives trace (state r0).bytes
   pub reads : P (state z0) (state z1) (state r0) (state r1)
 
--- a task was done on texts of which this is known
+-- a task was done on texts with these known bytes
 abbrev pub Performs : {R : Type 0} → (R → SourceState) → Profile → Task → Known → Known → SinkState → SinkState
     → ExplainOutcome → Type 0
 Performs state profile task beside trace w0 w1 outcome = Unopened (MayFail beside ⊎ MayFail trace) w0 w1 outcome

@@ -148,8 +148,8 @@ errno 93 (ENOTCAPABLE) or 94 (ECAPMODE), and then how many there are:
 At line 30 descriptor 5 was held without CAP_READ, which the call needs. At line 41
 the process was in capability mode, which doesn't always allow the call. At line 52
 nothing that is known explains the refusal: it may be another limit, a path that
-leaves its directory, or a descriptor of which nothing is known; where `check` has a
-finding, the refusal is wrong.
+leaves its directory, or an unknown descriptor; where `check` has a finding, the
+refusal is wrong.
 
 A line that can't be read is refused as by `check`. Starts and profiles are those of
 `check`.

@@ -354,7 +354,7 @@ fn kind_of(fitting: &str) -> &'static str {
         "\"a\"" => "is not a path in double quotes",
         "0" | "O_RDONLY" => "is not flags, 0 or names with | between them",
         "F_GETFL" => "is not a command",
-        _ => "is not what stands there",
+        _ => "is not what belongs there",
     }
 }
 
