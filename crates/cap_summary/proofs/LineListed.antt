@@ -1,7 +1,8 @@
 -- What one line lists, that the line names it, and a cell that is set in place.
 use Rattle.std.specs.Prelude.{◌≡◌, ◌+◌, ◌<◌, ◌≤◌, ◌||◌, ℕ, eqb, List, Bool, true, false, cond, Option, Some, length}
 use Rattle.std.specs.Prelude.{get_or, take, refl, ◌==◌, ◌∷◌, [], IfSome, All, ◌&&◌, None, unwrap_or}
-use Rattle.cap_summary.specs.{option_map_or, list_any, all, Unsure, Closed, Outside, LineEffect, Keys.mode_cell, declared.base.Base.Base, fds_spelled}
+use Rattle.cap_summary.specs.{option_map_or, list_any, all, Unsure, Closed, Outside, LineEffect, fds_spelled}
+use Rattle.cap_summary.specs.{Keys.mode_cell, declared.base.Base.Base}
 use Rattle.cap_summary.specs.{declared.value.Value.Value, Op, declared.key.Key.Key, Cell, declared.effect.Effect.Effect}
 use Rattle.cap_summary.specs.{declared.effect.Row.Row, Keys.Cells, Sorted.found, Values.read, Values.reads_within}
 use Rattle.cap_summary.specs.Lines.{IsStarted, IsRowOf, is_cell}
