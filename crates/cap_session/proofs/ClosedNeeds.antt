@@ -172,7 +172,7 @@ item_checks _ fine = tt
 
 -- ---- what checks need
 
--- of a descriptor of which right k is needed, each right is needed that the name of right k stands for
+-- where right k of a descriptor is needed, so is each right that the name of right k stands for
 pub needs_more : (checks : List Check) (f k j : ℕ) → k < 63 → holds (value_at k) j ≡ true → AllClosed checks
     → checks_need checks f k ≡ true → checks_need checks f j ≡ true
 needs_more [] f k j lt value are is = absurd (cc)

@@ -83,7 +83,7 @@ module _ (start : List Added) (s : State) (spelled : IsSpelledStart start) where
     ]
   ]
 
-  -- a descriptor that stands and is held
+  -- a descriptor that is known by itself and held
   pub standing_within : (history : List Step) (p f : ℕ) → AllFine history → IsHeld (cell_after s history p f)
       → Stands start history p f → IsFd f
   standing_within [] p f are is stands = start_within start p f spelled stands

@@ -132,7 +132,7 @@ module _ (step : Step) (line : LineEffect) (me : ℕ) (cells : (p f : ℕ) → e
   line_is s p Key.Mode = turned_is (effect_turn line me p) s p ∙ ap (λ t. mode_cell (turned t s.mode p)) (modes p)
   line_is s p (Key.Fd f) = ap (λ t. touched t s.cell p f) (cells p f)
 
-  -- a step of which the line leaves a cell or a mode
+  -- a step whose line leaves a cell or a mode
   step_leaves : (p : ℕ) (k : Key) → LineLeaves line me p k → StepsLeave (step ∷ []) p k
   step_leaves p Key.Mode is = All-cons (λ (step : Step). turn step p ≡ stays) step [] (sym (modes p) ∙ is)
       (All-nil (λ (step : Step). turn step p ≡ stays))

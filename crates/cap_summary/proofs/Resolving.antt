@@ -73,7 +73,7 @@ some_found xs is = grind (arith, is)
 abbrev IsBelow : ℕ → Found → Type 0
 IsBelow n found = (1 ≤ found.at) × (found.at ≤ n)
 
--- findings that all stand in a range, or of which none does
+-- findings that are all in a range, or all outside
 alike : (p : Found → Bool) (b : Bool) (xs : List Found) → All (λ x. p x ≡ b) xs → filter p xs ≡ cond b xs []
 alike p true [] all = refl
 alike p false [] all = refl
@@ -82,7 +82,7 @@ alike p true (x ∷ xs) all = rw (All-head (λ y. p y ≡ true) x xs all)
 alike p false (x ∷ xs) all = rw (All-head (λ y. p y ≡ false) x xs all)
     (alike p false xs (All-tail (λ y. p y ≡ false) x xs all))
 
--- nothing of a segment stands at positions before it or after it
+-- nothing of a segment is at positions before it or after it
 not_within : (asked : Asked) (at : ℕ) (s : State) (t : List Step) → (at + length t < asked.from) ⊎ (asked.to ≤ at)
     → found_in asked at s t ≡ []
 not_within asked at s t out = alike (is_at asked.from asked.to) false (map (later at) (check s t))
@@ -144,7 +144,7 @@ found_in_first asked at n s t beyond = elim (cases_lt n (length t)) [
   | inr long ↦ ap (found_in asked at s) (take_all n t long)
 ]
 
--- nothing stands before the first position that is asked for
+-- nothing is before the first position that is asked for
 pub none_before_first : (asked : Asked) (s : State) (t : List Step) → [] ≡ found_in asked 0 s (take (asked.from - 1) t)
 none_before_first asked s t = elim (cases_lt (asked.from - 1) asked.from) [
   | inl before ↦ found_outside asked 0 s (take (asked.from - 1) t) []

@@ -45,7 +45,7 @@ rises_again b ((k, v) ∷ rest) above keys = (
       (λ i j d lt in_range. keys (suc i) (suc j) d (omega arith) (omega arith)),
 )
 
--- in the rest, an entry stands one place lower
+-- in the rest, an entry is one place lower
 pub is_at_tail : {V : Type 0} (x : ℕ × V) (l : List (ℕ × V)) (key at : ℕ) → IsAt (x ∷ l) key (suc at) → IsAt l key at
 is_at_tail x l key at is_at = record { in_range = omega (arith, is_at.in_range); has_key = is_at.has_key }
 
@@ -66,7 +66,7 @@ pub found_at : {V : Type 0} (b : ℕ) (l : List (ℕ × V)) (key at : ℕ) (d : 
 found_at b l key at d rises is_at = found_is_at b l key at rises is_at
     ∙ ap (option_map (λ entry. entry.1)) (slice_get-get_or l at d is_at.in_range)
 
--- a key that stands at no place isn't found
+-- a key that is at no place isn't found
 found_absent : {V : Type 0} (l : List (ℕ × V)) (key : ℕ) → ((i : ℕ) (d : ℕ × V) → i < length l → (get_or l i d).0 ≢ key)
     → found l key ≡ None
 found_absent [] key absent = refl
@@ -91,7 +91,7 @@ comparisons_rise l key rises i j d le in_range =
 pub found_gap : {V : Type 0} (l : List (ℕ × V)) (key at : ℕ) → IsGap l key at → found l key ≡ None
 found_gap l key at gap = found_absent l key (λ i d lt same. grind (arith, gap.smaller i d, gap.greater i d))
 
--- whatever stands where there is no entry
+-- whatever is read where there is no entry
 pub same_key : {V : Type 0} (l : List (ℕ × V)) (at : ℕ) (d e : ℕ × V) → at < length l
     → (get_or l at d).0 ≡ (get_or l at e).0
 same_key l at d e within = ap (λ entry. entry.0) (get_or_default l at d e within)

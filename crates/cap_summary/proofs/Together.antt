@@ -11,7 +11,7 @@ use Rattle.cap_summary.proofs.Asking.{alike_sure}
 same_key : (j k : Key) → key_number j ≡ key_number k → j ≡ k
 same_key j k is = grind (arith, is)
 
--- an ask that surely passes the cell that stands in a state holds there
+-- an ask that surely passes the cell of a state holds there
 sure_holds : (a : Ask) (s : State) (p : ℕ) (k : Key) → is_sure_at p k (cells_of s p k) a ≡ true
     → holds (cells_of s) a ≡ true
 sure_holds a s p k is =

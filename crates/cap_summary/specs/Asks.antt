@@ -21,7 +21,7 @@ any_holds cells asks = list_any (holds cells) asks
 abbrev pub asks_of : UpToThree → List Ask
 asks_of three = take (min three.count 3) three.asks
 
--- the cell that stands at a key for another cell: that of a mode, or the cell with these rights if it is held
+-- the cell at a key for another cell: that of a mode, or the cell with these rights if it is held
 abbrev pub standing : ℕ → Key → Cell → Cell
 standing rights Key.Mode cell = mode_cell (cell_mode cell)
 standing rights (Key.Fd f) cell = holding rights cell

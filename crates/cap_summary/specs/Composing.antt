@@ -31,7 +31,7 @@ pub record IsComposedSo (first : Effect) (p : ℕ) (was later new : Option Row) 
 pub record IsJoinedEffect (first later both : Effect) : Type 0 where
   pub rows : (p : ℕ) → IsComposedSo first p (found first.rows p) (found later.rows p) (found both.rows p)
 
--- the row of a process in an old whole, of which one part was replaced; the later segment gives the process this row
+-- the row of a process in an old whole, when one part was replaced; the later segment gives the process this row
 abbrev pub IsOldAt : Replaced → Effect → ℕ → Option Row → Type 0
 IsOldAt old first p later =
     IsComposedSo (part_at old.side old.was.now first) p (found (part_at old.side old.was.now first).rows p)

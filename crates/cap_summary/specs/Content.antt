@@ -14,7 +14,7 @@ abbrev pub HasParts : Content → Type 0
 HasParts (Run run) = length run.items ≤ 48
 HasParts (Both a b) = (0 < length a.value.steps) × (0 < length b.value.steps)
 
--- what is known is kept of both parts of a node of which it is kept
+-- where what is known of a node is kept, it is kept of both parts
 abbrev pub AreKept : NodeView → NodeView → Type 0
 AreKept a b = (is_some a.known ≡ true) × (is_some b.known ≡ true)
 
@@ -22,7 +22,7 @@ abbrev pub KeepsParts : Option Known → Content → Type 0
 KeepsParts kept (Run run) = Unit {0}
 KeepsParts kept (Both a b) = IfSome kept (λ known. AreKept a.value b.value)
 
--- what always holds of a node; one of which nothing is kept names or refuses many
+-- what always holds of a node; where nothing is kept of it, it names or refuses many
 pub record IsGood (size : ℕ) (kept : Option Known) (content : Content) : Type 0 where
   pub len : size ≡ length (content_steps content)
   pub parts : HasParts content

@@ -1,4 +1,4 @@
--- What is kept of steps, and of which so much may be known that it isn't kept: of those that name many processes and
+-- What is kept of steps, and where so much may be known of them that it isn't kept: where they name many processes and
 -- descriptors, or have many calls that were refused for lack of a right.
 use Rattle.std.specs.Prelude.{◌+◌, ◌*◌, ◌<◌, ◌≤◌, ◌⊎◌, ◌==◌, ℕ, Bool, min, List, length}
 use Rattle.cap_summary.specs.{list_any, Step, Knows.Knows, LineAsks.refused, Names.Names, Names.names_in}

@@ -7,11 +7,11 @@ use Rattle.cap_summary.specs.{declared.last_steps.LastSteps.LastSteps}
 abbrev pub last_of : LastSteps → ℕ → ℕ
 last_of last p = slice_index_or last.positions.items p 0
 
--- of no process it stands earlier than before
+-- it is earlier than before for no process
 abbrev pub IsNoLess : LastSteps → LastSteps → Type 0
 IsNoLess old new = (p : ℕ) → last_of old p ≤ last_of new p
 
--- of steps after so many others none stands beyond the last one of its process
+-- of steps after so many others, none is beyond the last one of its process
 abbrev pub AreNoted : LastSteps → ℕ → List Step → Type 0
 AreNoted last at [] = Unit {0}
 AreNoted last at (step ∷ t) = (at < last_of last step.line.pid) × AreNoted last (at + 1) t

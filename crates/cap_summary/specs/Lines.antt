@@ -29,7 +29,7 @@ is_touched (LineEffect.Fork child) me p = p == child
 is_touched (LineEffect.ForkAs child f) me p = p == me || p == child
 is_touched _ me p = p == me
 
--- a line of process me is of single cells alone, each with a value of its own
+-- a line of process me sets single cells alone, each to a value of its own
 abbrev pub sets_cells : LineEffect → Bool
 sets_cells (LineEffect.Give f c) = true
 sets_cells (LineEffect.GiveTwo f g c) = true

@@ -21,7 +21,7 @@ abbrev pub item_answers_fd : ℕ → Item → Bool
 item_answers_fd f (Item.Call call answer) = answers_fd f (kind_of call) answer
 item_answers_fd f _ = false
 
--- a descriptor stands in an argument of the line, or in its answer
+-- a descriptor is in an argument of the line, or in its answer
 abbrev pub line_names_fd : ℕ → Entry → Bool
 line_names_fd f line = args_name f line || item_answers_fd f line.item
 

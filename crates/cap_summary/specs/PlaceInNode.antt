@@ -31,7 +31,7 @@ cell_seen walk s history = OfCell (cell_found walk s history) (cell_known walk s
 abbrev pub mode_seen : ModeWalk → State → List Step → Origin
 mode_seen walk s history = OfMode (mode_found walk s history) (mode_known walk s history)
 
--- a walk has passed a trace that stands after so many steps: what it sees without it is what it saw with it
+-- a walk has passed a trace that comes after so many steps: what it sees without it is what it saw with it
 abbrev pub Passes : {W : Type 0} → (W → State → List Step → Origin) → W → W → ℕ → List Step → Type 0
 Passes see old new at trace = (s : State) (history : List Step) → length history ≡ at
     → see new s history ≡ see old s (reverse trace ++ history)

@@ -4,7 +4,7 @@ use Rattle.std.specs.Prelude.{nat_le, filter, map}
 use Rattle.cap_summary.specs.{Found, Finding, Step, State, check, found_at, later, declared.judging.Asked.Asked}
 use Rattle.cap_summary.specs.{declared.judging.Report.Report}
 
--- a finding stands at a position from one to another, both included
+-- a finding is at a position from one to another, both included
 abbrev pub is_at : ℕ → ℕ → Found → Bool
 is_at from to found = nat_le from found.at && nat_le found.at to
 

@@ -19,7 +19,7 @@ kind_of Closed = 4
 abbrev pub has : Kinds → ℕ → Bool
 has kinds kind = bit_at kinds.bits kind == 1
 
--- a cell is of one of these kinds
+-- a cell has one of these kinds
 abbrev pub has_kind : Kinds → Cell → Bool
 has_kind kinds cell = has kinds (kind_of cell)
 

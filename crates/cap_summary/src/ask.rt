@@ -15,7 +15,7 @@ use cap_rights::RightSet;
 use cap_trace::Pid;
 use std::cmp::Ordering;
 
-/// A test of one cell before a segment. The cell passes if it is of one of some kinds, or if it is held, of one of some
+/// A test of one cell before a segment. The cell passes if it has one of some kinds, or if it is held, has one of some
 /// other kinds, and lacks some of the rights.
 #[derive(Clone, Copy, Debug, PartialEq, Eq)]
 pub struct Ask {
@@ -91,7 +91,7 @@ impl Ask {
         }
     }
 
-    /// The kinds of which each cell that can stand at its key passes.
+    /// The kinds whose every cell that can be at its key passes.
     pub(crate) fn sure_kinds(&self) -> Kinds
         ensures { (c : Cell) → has_kind result c ≡ is_sure self.now self.now.key c }
     {
@@ -130,7 +130,7 @@ impl Ask {
         }
     }
 
-    /// The kinds of which a cell passes after an op, if it holds these rights before it where it is held.
+    /// The kinds whose cells pass after an op, if it holds these rights before it where it is held.
     fn kinds_before(&self, op: &Op, rights: RightSet) -> Kinds
         ensures { (c : Cell) → has_kind result c ≡ passes self.now (applied op.now (holding rights c)) }
     {

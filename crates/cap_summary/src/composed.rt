@@ -127,7 +127,7 @@ pub(crate) struct Replaced<'a> {
 }
 
 impl Replaced<'_> {
-    /// The row that the whole gave a process, where it stands: the new part gives the row that the old one gave, and if
+    /// The row that the whole gave a process, where it fits: the new part gives the row that the old one gave, and if
     /// that part is the first, then the second reads no other row of it.
     fn row(&self, pid: Pid, left: Option<&SharedRow>, right: &SharedRow) -> Option<&SharedRow>
         ensures { IfSome result (λ row. (first : Effect) → option_copied left.entry ≡ found first.rows pid
@@ -147,7 +147,7 @@ impl Replaced<'_> {
     }
 }
 
-/// Gives each process its row after two segments: that of an old whole, where it stands.
+/// Gives each process its row after two segments: that of an old whole, where it still fits.
 #[derive(Clone, Copy)]
 struct Composing<'a> {
     first: &'a Effect,

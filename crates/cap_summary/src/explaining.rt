@@ -96,7 +96,7 @@ impl PlaceInNode<'_> {
         Ok(Some(walk.finish(self.start)))
     }
 
-    /// What a step that stands here rests on.
+    /// What a step at this place rests on.
     fn explain(&self, alloc: Global, step: &Step) -> Result<Explanation, NoMemory>
         requires { IsPlace self.now }
         ensures { IfOk result
@@ -141,7 +141,7 @@ pub(crate) fn judge_alone(
 /// What the step at a position of a summary rests on; positions are from 1. `None` where it has no such step.
 ///
 /// From the position it goes back to where the cell of each descriptor that the line checks was given, and to where the
-/// mode was where it matters. It leaves out each part of the summary of which it is known that no step touches the cell.
+/// mode was where it matters. It leaves out each part of the summary that is known not to touch the cell.
 /// It judges this step alone. Its memory is that of the chains.
 ///
 /// `NoMemory` when out of memory; the summary is unchanged.

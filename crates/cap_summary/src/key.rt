@@ -41,7 +41,7 @@ pub fn mode_of_cell(cell: Cell) -> Mode
 }
 
 impl Key {
-    /// Where it stands in the order of keys: the mode first, and then the descriptors.
+    /// Its place in the order of keys: the mode first, and then the descriptors.
     pub(crate) fn number(&self) -> u64
         ensures number { result ≡ key_number self.now }
         ensures fits { result < 2 ^ 33 }

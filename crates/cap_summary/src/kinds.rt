@@ -58,7 +58,7 @@ impl Kinds {
         }
     }
 
-    /// Whether a cell is of one of these kinds.
+    /// Whether a cell has one of these kinds.
     pub fn has(&self, cell: &Cell) -> bool
         ensures { result ≡ has_kind self.now cell.now }
     {

@@ -154,7 +154,7 @@ impl Known {
         Ok(Rc::new(alloc, precondition)?)
     }
 
-    /// What is known of two segments, one of which took the place of `was` in an old whole, and how far it is the same as
+    /// What is known of two segments, when one took the place of `was` in an old whole, and how far it is the same as
     /// what was known of that whole. What is the same is shared. `similarity` says how far `was` and the new part are
     /// alike.
     #[tactic(auto, using(crate::proofs::Rejoining::rejoined_effect, crate::proofs::Rejoining::rejoined_asks))]

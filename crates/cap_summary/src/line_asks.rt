@@ -23,7 +23,7 @@ pub enum LineAsks {
     Unless(UpToThree),
 }
 
-/// The cell of the mode of a process is of one of these kinds, if that is asked.
+/// The cell of the mode of a process has one of these kinds, if that is asked.
 #[inline(always)]
 fn of_mode(me: Pid, asked: bool, kinds: Kinds) -> UpToThree
     ensures holds { (s : State)
@@ -44,7 +44,7 @@ fn of_mode(me: Pid, asked: bool, kinds: Kinds) -> UpToThree
     asks
 }
 
-/// A descriptor is of one of these kinds, or lacks some of the rights.
+/// A descriptor has one of these kinds, or lacks some of the rights.
 #[inline(always)]
 fn lacking(me: Pid, fd: Fd, kinds: Kinds, rights: &RightSet) -> Ask
     ensures holds { (cells : Cells) → holds cells result

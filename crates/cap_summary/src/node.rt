@@ -118,7 +118,7 @@ impl Node {
         self.known.is_some()
     }
 
-    /// The node of contents of which this is known. It is kept within the limit.
+    /// The node of contents with what is known of them, which is kept within the limit.
     fn of(alloc: Global, known: Option<Known>, content: Content) -> Result<Rc<Node>, NoMemory>
         requires parts { HasParts content }
         requires kept { KeepsParts known content }
@@ -255,7 +255,7 @@ impl Node {
         Some((first, second))
     }
 
-    /// The node of two parts that have steps, of which this is known.
+    /// The node of two parts that have steps, with what is known of them.
     fn of_parts(
         alloc: Global,
         known: Option<Known>,

@@ -54,7 +54,7 @@ pub fn resolve(alloc: Global, summary: &Summary, start: &Start) -> Result<Vec<Fo
     Ok(found)
 }
 
-/// The part of what [`resolve`] answers that stands at positions from one to another, both included.
+/// The part of what [`resolve`] answers at positions from one to another, both included.
 ///
 /// `NoMemory` when out of memory; the summary is unchanged.
 pub fn resolve_range(

@@ -110,7 +110,7 @@ impl Node {
     }
 
     /// Walks back through the first steps, so many, which stand after others: the right part first, and up to the step
-    /// that gave what the walk looks for. A part of which it is known that no step touches that is left out.
+    /// that gave what the walk looks for. A part that is known not to touch that is left out.
     pub(crate) fn walk<W: Walk>(
         &self,
         walk: &mut W,

@@ -79,7 +79,7 @@ impl fmt::Display for Shown<'_> {
     }
 }
 
-/// Which text a refused line is of.
+/// The text that has a refused line.
 #[derive(Clone, Copy)]
 pub enum Kind {
     Trace,

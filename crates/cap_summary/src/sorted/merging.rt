@@ -18,7 +18,7 @@ pub trait Combine {
     /// What may stand at a key of the merged map, by what the two tables have there.
     ghost gives: { Self → ℕ → Option Self.Left → Option Self.Right → Option Self.Out → Type 0 };
 
-    /// What stands at a key that one of the tables has, or both.
+    /// The value at a key that one of the tables has, or both.
     fn combine(
         &self,
         alloc: Global,
