@@ -126,6 +126,7 @@ impl<K: TraceSink> Lines for Entries<K> {
 
     ghost holds = { λ e known. Holds K.keeps e.kept known };
 
+    #[inline(always)]
     fn line(&mut self, line: &[u8]) -> Result<(), Refused> {
         if is_skipped(line) {
             return Ok(());

@@ -1,5 +1,5 @@
 //! The beginning of a line, in room that is taken before the first read.
-ghost use Rattle.std.specs.Prelude.{◌≡◌, ◌+◌, ◌<◌, ◌≤◌, ◌↔◌, List, ℕ, [], ◌++◌, length, take, IfOk, OnOk, OnErr};
+ghost use Rattle.std.specs.Prelude.{◌≡◌, ◌≢◌, ◌+◌, ◌<◌, ◌≤◌, ◌↔◌, List, ℕ, [], ◌++◌, length, take, IfOk, OnOk, OnErr};
 ghost use Rattle.std.specs.Prelude.{vec_capacity, IsTrue};
 
 use std::alloc::{AllocError, Global};
@@ -49,6 +49,19 @@ impl<const LIMIT: usize> LineBuffer<LIMIT> {
         ensures { result.now ≡ self.now }
     {
         self.bytes.as_slice()
+    }
+
+    /// What is held, or these bytes where nothing is.
+    #[inline(always)]
+    pub fn or<'a>(&'a self, bytes: &'a [u8]) -> &'a [u8]
+        ensures held { self.now ≢ [] → result.now ≡ self.now }
+        ensures none { self.now ≡ [] → result.now ≡ bytes.now }
+    {
+        if self.bytes.is_empty() {
+            bytes
+        } else {
+            self.bytes.as_slice()
+        }
     }
 
     /// Adds bytes, and takes no memory. Bytes that would pass the limit are refused, and nothing is added.

@@ -80,27 +80,27 @@ impl<L: Lines> LineReader<L> {
     }
 
     /// Gives on the line that is begun, which these bytes complete.
+    #[inline(always)]
     fn take(&mut self, bytes: &[u8]) -> Result<(), Refused>
         ensures takes { (known : L.Known) → L.follows self.old.lines known
             → TakesLine (with_line L.next known (self.old.held ++ bytes.now)) (L.follows self.new.lines) result }
         ensures held { OnOk result (self.new.held ≡ []) }
         ensures number { self.new.number ≡ self.old.number }
     {
-        if self.held.is_empty() {
-            if bytes.len() > LONGEST_LINE {
-                return Err(Refused::LongLine);
-            }
-            return self.lines.line(bytes);
-        }
-        if self.held.add(bytes).is_err() {
+        if !self.held.is_empty() && self.held.add(bytes).is_err() {
             return Err(Refused::LongLine);
         }
-        self.lines.line(self.held.as_slice())?;
+        let line = self.held.or(bytes);
+        if line.len() > LONGEST_LINE {
+            return Err(Refused::LongLine);
+        }
+        self.lines.line(line)?;
         self.held.clear();
         Ok(())
     }
 
     /// Takes the line that is begun, which these bytes complete.
+    #[inline(always)]
     fn complete(&mut self, bytes: &[u8]) -> Result<(), StopReason>
         requires { self.old.number + 1 < 2 ^ 64 }
         ensures completes { (known : L.Known) → L.follows self.old.lines known → Completes
