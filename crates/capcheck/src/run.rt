@@ -10,7 +10,7 @@ ghost use Rattle.cap_session.specs.Outcome.{explain_status_of};
 ghost use Rattle.cap_session.specs.StartTexts.{start as start_said};
 ghost use Rattle.capcheck.specs.Faults.{fault_code};
 ghost use Rattle.capcheck.specs.Plans.{run_of, seen};
-ghost use Rattle.capcheck.specs.Runs.{CarriesOut, Finishes, NeverFail, RunsText, TaskIsNoFault, known_beside};
+ghost use Rattle.capcheck.specs.Runs.{CarriesOut, Finishes, NeverFail, RunsText, TaskIsNoFault, TaskStreams, known_beside};
 ghost use Rattle.capcheck.specs.Texts.{Gives, MayFail};
 
 use crate::messages::{Output, begin, tell};
@@ -164,11 +164,10 @@ fn open_both<T: Texts>(texts: &T, run: &Run<'_>) -> Result<(T::Reader, T::Reader
     Ok((start, texts.open(run.trace)?))
 }
 
-/// Does what a run is for, in its profile, and writes the answer, the reply to each line of a script before the next is
-/// looked at, or why there is none.
+/// Opens both texts, and then does what a run is for.
 ///
-/// Both texts are opened before either is read. No stream is buffered here: a piece is read by one system call, and the
-/// report is written by one where the system takes it whole.
+/// Both are opened before either is read. No stream is buffered here: a piece is read by one system call, and the report is
+/// written by one where the system takes it whole.
 pub fn perform<T: Texts, W: Sink>(
     alloc: Global,
     texts: &T,
@@ -179,24 +178,40 @@ pub fn perform<T: Texts, W: Sink>(
     ensures { RunsText T.Reader.state (T.known texts.now) (run_of run.now)
         (W.state output.old) (W.state output.new) result }
 {
-    let Ok((mut other, mut trace)) = open_both(texts, run) else {
-        return Ended(Outcome::ReadFault);
-    };
+    match open_both(texts, run) {
+        Ok((mut other, mut trace)) => do_task(alloc, run, &mut other, &mut trace, output),
+        Err(Failed) => Ended(Outcome::ReadFault),
+    }
+}
+
+/// Does what a run is for, in its profile, and writes the answer, the reply to each line of a script before the next is
+/// looked at, or why there is none.
+fn do_task<R: Source, W: Sink>(
+    alloc: Global,
+    run: &Run<'_>,
+    other: &mut R,
+    trace: &mut R,
+    output: &mut W,
+) -> ExplainOutcome
+    requires beside { 2 ^ 32 ≤ (R.state other.old).room }
+    requires trace { 2 ^ 32 ≤ (R.state trace.old).room }
+    requires writes { 1 ≤ (W.state output.old).room }
+    ensures { TaskStreams run.now.profile run.now.task (R.state other.old) (R.state other.new)
+        (R.state trace.old) (R.state trace.new) (W.state output.old) (W.state output.new) result }
+{
     let profile = run.profile;
     match run.task {
         Task::Ask(Question::Findings) => Ended(check_stream_from_as(
-            alloc, profile, TURNS, &mut other, &mut trace, output,
+            alloc, profile, TURNS, other, trace, output,
         )),
         Task::Ask(Question::Denials) => Ended(denials_stream(
-            alloc, profile, TURNS, &mut other, &mut trace, output,
+            alloc, profile, TURNS, other, trace, output,
         )),
-        Task::Edit => Ended(edit_stream_as(alloc, profile, TURNS, &mut trace, &mut other, output)),
-        Task::Explain(position) => explain_stream(
-            alloc, profile, TURNS, position, &mut other, &mut trace, output,
-        ),
-        Task::Limits(at) => limits_stream(
-            alloc, profile, TURNS, at, &mut other, &mut trace, output,
-        ),
+        Task::Edit => Ended(edit_stream_as(alloc, profile, TURNS, trace, other, output)),
+        Task::Explain(position) => {
+            explain_stream(alloc, profile, TURNS, position, other, trace, output)
+        }
+        Task::Limits(at) => limits_stream(alloc, profile, TURNS, at, other, trace, output),
     }
 }
 
