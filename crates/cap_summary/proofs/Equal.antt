@@ -11,7 +11,6 @@ use Rattle.cap_machine.specs.contracts.cell.HeldOpPartialEq.TheImpl as helds
 use Rattle.cap_machine.specs.contracts.cell.OpPartialEq.TheImpl as ops
 use Rattle.cap_summary.specs.contracts.value.ValuePartialEq.TheImpl as values
 use Rattle.cap_summary.specs.contracts.base.BasePartialEq.TheImpl as bases
-use Rattle.cap_summary.specs.contracts.listed.ListedPartialEq.TheImpl as listed
 use Rattle.cap_summary.specs.contracts.effect.RowPartialEq.TheImpl as rows
 use Rattle.cap_summary.specs.contracts.key.KeyPartialEq.TheImpl as keys
 use Rattle.cap_summary.specs.contracts.kinds.KindsPartialEq.TheImpl as kinds

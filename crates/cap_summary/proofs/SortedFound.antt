@@ -4,8 +4,8 @@ use Rattle.cap_summary.specs.Sorted.{IsAt, IsGap, found, RisesFrom, Rises, KeysR
 use Rattle.cap_summary.proofs.{sym, ap, ◌∙◌, arith, ranked, nat_tests}
 use Rattle.std.specs.{List.Sorted.IsSearchInRange, List.Sorted.IsBinarySearchResult, Ordering.ordering_index}
 use Rattle.std.specs.Prelude.{Result, zero, List, length, get_or, None, Some, IfOk, IfErr, option_map, slice_get, refl}
-use Rattle.std.specs.Prelude.{◌≢◌, Ok, Err, ◌≡◌, ◌+◌, ◌-◌, ◌<◌, ◌≤◌, ◌∷◌, ℕ, suc, []}
-use Rattle.std.proofs.{lemmas.List.get_or_default, lemmas.Option.slice_get-get_or}
+use Rattle.std.specs.Prelude.{◌≢◌, Ok, Err, ◌≡◌, ◌+◌, ◌<◌, ◌≤◌, ◌∷◌, ℕ, suc, []}
+use Rattle.std.proofs.{lemmas.Option.slice_get-get_or}
 
 -- no key is below the bound
 pub rises_at : {V : Type 0} (b : ℕ) (l : List (ℕ × V)) → RisesFrom b l → (i : ℕ) (d : ℕ × V) → i < length l
@@ -90,30 +90,6 @@ comparisons_rise l key rises i j d le in_range =
 -- a key that has a gap isn't found
 pub found_gap : {V : Type 0} (l : List (ℕ × V)) (key at : ℕ) → IsGap l key at → found l key ≡ None
 found_gap l key at gap = found_absent l key (λ i d lt same. grind (arith, gap.smaller i d, gap.greater i d))
-
--- whatever is read where there is no entry
-pub same_key : {V : Type 0} (l : List (ℕ × V)) (at : ℕ) (d e : ℕ × V) → at < length l
-    → (get_or l at d).0 ≡ (get_or l at e).0
-same_key l at d e within = ap (λ entry. entry.0) (get_or_default l at d e within)
-
--- the entry before a place has a smaller key
-pub record IsPast {V : Type 0} (l : List (ℕ × V)) (key at : ℕ) : Type 0 where
-  pub some : 0 < at
-  pub in_range : at ≤ length l
-  pub below : (d : ℕ × V) → (get_or l (at - 1) d).0 < key
-
--- and where the entry at the place has a greater one, the key isn't found
-pub found_between : {V : Type 0} (l : List (ℕ × V)) → Rises l → (key at : ℕ) → IsPast l key at
-    → ((d : ℕ × V) → at < length l → key < (get_or l at d).0) → found l key ≡ None
-found_between l rises key at past above = found_gap l key at (record {
-  in_range = past.in_range;
-  smaller = λ i d before.
-      let le = keys_in_order l rises i (at - 1) d (omega (arith, before)) (omega (arith, past.some, past.in_range)) in
-      omega (arith, le, past.below d);
-  greater = λ i d after lt.
-      let le = keys_in_order l rises at i d after lt in
-      omega (arith, le, above d (omega (arith, after, lt)));
-})
 
 -- a binary search ends at the key, or at the gap for it
 pub searched : {V : Type 0} (l : List (ℕ × V)) → Rises l → (key : ℕ) (r : Result ℕ ℕ) → IsSearchInRange r (length l)

@@ -1,7 +1,6 @@
 -- A table as the list of its entries, each a key and a value.
 use Rattle.std.specs.Prelude.{◌≡◌, ◌+◌, ◌<◌, ◌≤◌, ◌==◌, ◌∷◌, if◌then◌else◌, ℕ, List, [], length, slice_index_or, Option}
 use Rattle.std.specs.Prelude.{Some, None}
-use Rattle.cap_summary.specs.{Rc, Global}
 
 -- the value of the first entry that has the key
 abbrev pub found : {V : Type 0} → List (ℕ × V) → ℕ → Option V
@@ -21,11 +20,6 @@ Rises entries = RisesFrom 0 entries
 abbrev pub KeysRise : {V : Type 0} → List (ℕ × V) → Type 0
 KeysRise {V} entries = (i j : ℕ) (d : ℕ × V) → i < j → j < length entries
     → (slice_index_or entries i d).0 < (slice_index_or entries j d).0
-
--- the entries of a map that is shared with its clones: none where nothing is shared
-abbrev pub shared_entries : {V : Type 0} → Option (Rc (List (ℕ × V)) Global) → List (ℕ × V)
-shared_entries None = []
-shared_entries (Some map) = map.value
 
 -- the entry at this place has the key
 pub record IsAt {V : Type 0} (entries : List (ℕ × V)) (key at : ℕ) : Type 0 where

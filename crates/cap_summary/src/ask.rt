@@ -202,19 +202,18 @@ impl Ask {
             → IfAsked (AskWithin (has_cell names)) result }
     {
         match first.row(self.pid) {
-            Some(row) => self.through(row, row.listed(self.key, &mut 0)),
+            Some(row) => self.through(row, row.listed(self.key)),
             None => self.settled(),
         }
     }
 
-    /// The row of its process, if there is one, and what that lists at its key, looked for near this place. `None` where
-    /// the row leaves its cell.
+    /// The row of its process, if there is one, and what that lists at its key. `None` where the row leaves
+    /// its cell.
     #[inline(always)]
     #[tactic(auto, using(crate::proofs::Pulling::row_left))]
     pub(crate) fn changed_by<'a>(
         &self,
         row: Option<&'a Row>,
-        near: &mut usize,
     ) -> Option<(&'a Row, Option<&'a Value>)>
         ensures left { IfNone result ((cells : Cells)
             → cell_in cells (option_copied row.entry) self.now.pid self.now.key ≡ cells self.now.pid self.now.key) }
@@ -224,7 +223,7 @@ impl Ask {
         let Some(row) = row else {
             return None;
         };
-        let listed = row.listed(self.key, near);
+        let listed = row.listed(self.key);
         if row.leaves(self.key, listed) {
             return None;
         }

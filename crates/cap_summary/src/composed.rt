@@ -1,7 +1,8 @@
 //! The effect of two segments, one after the other.
 
 ghost use Rattle.std.specs.Prelude.{◌≡◌, ℕ, false, true, is_none, Some, IfSome, IfOk, option_copied};
-ghost use Rattle.cap_summary.specs.{option_map_or, Closed, Keys.Cells, Sorted.found, Values.read, declared.key.Key.Key};
+ghost use Rattle.cap_summary.specs.{option_map_or, Closed, Keys.Cells, Sorted.found, Sorted.Rises, Values.read};
+ghost use Rattle.cap_summary.specs.{declared.key.Key.Key};
 ghost use Rattle.cap_summary.specs.Composing.{IsHandedSo, IsComposedSo, IsJoinedEffect, IsOldAt, IsReplaced};
 ghost use Rattle.cap_summary.specs.Effects.{passed, is_from, base_cell, changed, IsRowAfter};
 ghost use Rattle.cap_summary.specs.{Effects.base_leaves, Effects.row_leaves, Effects.leaves};
@@ -11,7 +12,7 @@ ghost use Rattle.cap_summary.specs.Names.{ReadWithin};
 use crate::base::lower_of;
 use crate::reading::counted;
 use crate::sorted::{Combine, merge};
-use crate::{Base, DefaultCells, Effect, Listed, Passing, Row, SharedRow, Value};
+use crate::{Base, DefaultCells, Effect, Passing, Row, SharedRow, Value};
 use cap_trace::Pid;
 use cap_tree::{NoMemory, Side};
 use std::alloc::Global;
@@ -19,28 +20,28 @@ use std::alloc::Global;
 /// The cells that a base of a later segment hands on, as an earlier segment leaves them: those that are listed there,
 /// how they are handed on, and all others.
 #[derive(Drop)]
-struct Handed {
+struct Handed<'a> {
     base: Base,
     passing: Passing,
-    cells: Listed,
+    cells: &'a [(u32, Value)],
 }
 
 impl Effect {
     /// The cells that a base of a process of a later segment hands on.
-    fn handed(&self, pid: Pid, base: &Base) -> Result<Handed, NoMemory>
-        ensures open { IfOk result (λ handed. (cells : Cells) (f : ℕ) → is_from base.now.closed_from f ≡ false
-            → option_map_or (λ v. passed handed.passing (read cells v)) (found handed.cells f)
-            (base_cell cells pid handed.base f) ≡ base_cell (changed self.now cells) pid base.now f) }
-        ensures closed { IfOk result (λ handed. (cells : Cells) (f : ℕ) → is_from base.now.closed_from f ≡ true
-            → base_cell cells pid handed.base f ≡ Closed) }
-        ensures leaves { IfOk result (λ handed. (f : ℕ) → base_leaves handed.base f ≡ true
-            → (base_leaves base.now f ≡ true)
-            × (is_none (found handed.cells f) ≡ true → leaves self.now pid (Key.Fd f) ≡ true)) }
-        ensures others_named { IfOk result (λ handed. (names of : Names) → ReadWithin names of self.now
-            → of.pids pid ≡ true → others_within of base.now.others ≡ true
-            → others_within names base.now.others ≡ true → others_within names handed.base.others ≡ true) }
-        ensures cells_named { IfOk result (λ handed. (names of : Names) → ReadWithin names of self.now
-            → of.pids pid ≡ true → others_within of base.now.others ≡ true → ListWithin names handed.cells) }
+    fn handed(&self, pid: Pid, base: &Base) -> Handed<'_>
+        ensures open { (cells : Cells) (f : ℕ) → is_from base.now.closed_from f ≡ false
+            → option_map_or (λ v. passed result.passing (read cells v)) (found result.cells.now f)
+            (base_cell cells pid result.base f) ≡ base_cell (changed self.now cells) pid base.now f }
+        ensures closed { (cells : Cells) (f : ℕ) → is_from base.now.closed_from f ≡ true
+            → base_cell cells pid result.base f ≡ Closed }
+        ensures leaves { (f : ℕ) → base_leaves result.base f ≡ true → (base_leaves base.now f ≡ true)
+            × (is_none (found result.cells.now f) ≡ true → leaves self.now pid (Key.Fd f) ≡ true) }
+        ensures others_named { (names of : Names) → ReadWithin names of self.now → of.pids pid ≡ true
+            → others_within of base.now.others ≡ true → others_within names base.now.others ≡ true
+            → others_within names result.base.others ≡ true }
+        ensures cells_named { (names of : Names) → ReadWithin names of self.now → of.pids pid ≡ true
+            → others_within of base.now.others ≡ true → ListWithin names result.cells.now }
+        ensures rising { Rises result.cells.now }
     {
         let first = match &base.others {
             DefaultCells::Own => self.row(pid),
@@ -48,11 +49,11 @@ impl Effect {
             _ => None,
         };
         let Some(first) = first else {
-            return Ok(Handed {
+            return Handed {
                 base: *base,
                 passing: Passing::Same,
-                cells: Listed::empty(),
-            });
+                cells: &[],
+            };
         };
         let (others, passing) = match &base.others {
             DefaultCells::Of(source, passing) => {
@@ -60,14 +61,14 @@ impl Effect {
             }
             _ => (first.base.others, Passing::Same),
         };
-        Ok(Handed {
+        Handed {
             base: Base {
                 others,
                 closed_from: lower_of(first.base.closed_from, base.closed_from),
             },
             passing,
-            cells: first.cells.clone()?,
-        })
+            cells: first.cells.entries(),
+        }
     }
 }
 
@@ -222,25 +223,6 @@ impl Effect {
         }
     }
 
-    /// What a row of a later segment lists, by the cells before this one, and what it hands on of those that are listed.
-    fn listed_after(&self, alloc: Global, row: &Row, handed: Handed) -> Result<Listed, NoMemory>
-        ensures { IfOk result (λ new. (f : ℕ) → IsHandedSo self.now handed.passing row.now.base.closed_from f
-            (found row.now.cells f) (found handed.cells f) (found new f)) }
-    {
-        if let (Passing::Same, None) = (&handed.passing, &row.base.closed_from) {
-            if row.cells.entries().is_empty() {
-                return Ok(handed.cells);
-            }
-        }
-        let handing = Handing {
-            first: self,
-            passing: handed.passing,
-            base: row.base,
-        };
-        let cells = merge(alloc, &handing, row.cells.entries(), handed.cells.entries())?;
-        Listed::of(alloc, cells)
-    }
-
     /// A row of a process of a later segment, by the cells before this one.
     pub(crate) fn row_after(&self, alloc: Global, pid: Pid, row: &Row) -> Result<Row, NoMemory>
         ensures cells { IfOk result (λ new. IsRowAfter self.now pid row.now new) }
@@ -250,10 +232,18 @@ impl Effect {
             → IsRowWithin of pid row.now → RowWithin names row.now → RowWithin names new) }
     {
         let mode = self.mode_after(alloc, pid, &row.mode)?;
-        let handed = self.handed(pid, &row.base)?;
-        let base = handed.base;
-        let cells = self.listed_after(alloc, row, handed)?;
-        Ok(Row { base, mode, cells })
+        let handed = self.handed(pid, &row.base);
+        let handing = Handing {
+            first: self,
+            passing: handed.passing,
+            base: row.base,
+        };
+        let cells = merge(alloc, &handing, row.cells.entries(), handed.cells)?;
+        Ok(Row {
+            base: handed.base,
+            mode,
+            cells,
+        })
     }
 
     /// This effect and then another. It shares rows with the effect of an old whole in which one of the two parts was

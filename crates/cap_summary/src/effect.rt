@@ -3,7 +3,7 @@
 ghost use Rattle.std.specs.{Option.ForSome};
 ghost use Rattle.cap_summary.specs.{RowSizes.IsSizeOf};
 
-use crate::{Base, Listed, Map, SharedRow, Value};
+use crate::{Base, Map, SharedRow, Value};
 
 /// What becomes of the cells of a process.
 #[derive(PartialEq, Drop)]
@@ -13,7 +13,7 @@ pub struct Row {
     /// The mode's cell, if a line turns the mode.
     pub mode: Option<Value>,
     /// The cells that are listed, by descriptor.
-    pub cells: Listed,
+    pub cells: Map<Value>,
 }
 
 /// What becomes of each cell over a segment, by the cells before it: its transfer function.

@@ -10,8 +10,7 @@ ghost use Rattle.cap_summary.specs.Names.{Names, IsListedWithin, ListWithin, Row
 ghost use Rattle.cap_summary.specs.Names.{RowsWithin, EffectWithin, LineWithin};
 
 use crate::{
-    Base, DefaultCells, Effect, Key, Listed, Map, Passing, Row, SharedOp, SharedRow, Value,
-    cell_of_mode,
+    Base, DefaultCells, Effect, Key, Map, Passing, Row, SharedOp, SharedRow, Value, cell_of_mode,
 };
 use cap_machine::{Effect as LineEffect, Mode, OnExec};
 use cap_rights::RightSet;
@@ -20,7 +19,7 @@ use cap_tree::NoMemory;
 use std::alloc::Global;
 
 /// The descriptors that a process starts with, as they are spelled.
-fn started_cells(alloc: Global, spelled: &[u8]) -> Result<Listed, NoMemory>
+fn started_cells(alloc: Global, spelled: &[u8]) -> Result<Map<Value>, NoMemory>
     ensures cells { IfOk result (λ listed. IsStarted (fds_spelled spelled.now) listed) }
     ensures names { IfOk result (λ listed. (names : Names) → All (λ f. names.fds f ≡ true) (fds_spelled spelled.now)
         → ListWithin names listed) }
@@ -32,7 +31,7 @@ fn started_cells(alloc: Global, spelled: &[u8]) -> Result<Listed, NoMemory>
     for fd in &fds {
         listed.set(*fd, Value::Held(RightSet::all(), OnExec::Unsure))?;
     }
-    Listed::of(alloc, listed)
+    Ok(listed)
 }
 
 /// The cell of a mode that a line turns to.
@@ -61,33 +60,33 @@ impl Row {
             LineEffect::Exit => Ok(Row {
                 base: Base::of(DefaultCells::Unknown),
                 mode: Some(turned(Mode::Unsure)),
-                ..Row::own()
+                ..Row::own(alloc)
             }),
             LineEffect::Forget => Ok(Row {
                 base: Base::of(DefaultCells::Unknown),
-                ..Row::own()
+                ..Row::own(alloc)
             }),
             LineEffect::Exec => Ok(Row {
                 base: Base::of(DefaultCells::Of(me, Passing::Exec)),
-                ..Row::own()
+                ..Row::own(alloc)
             }),
             LineEffect::CloseFrom(fd) => Ok(Row {
                 base: Base {
                     others: DefaultCells::Own,
                     closed_from: Some(*fd),
                 },
-                ..Row::own()
+                ..Row::own(alloc)
             }),
             LineEffect::Enter => Ok(Row {
                 mode: Some(turned(Mode::Inside)),
-                ..Row::own()
+                ..Row::own(alloc)
             }),
             LineEffect::ForkAs(_, fd) => {
-                let mut row = Row::own();
-                row.cells.set(alloc, *fd, Value::Unknown)?;
+                let mut row = Row::own(alloc);
+                row.cells.set(*fd, Value::Unknown)?;
                 Ok(row)
             }
-            _ => Ok(Row::own()),
+            _ => Ok(Row::own(alloc)),
         }
     }
 }
@@ -99,7 +98,7 @@ fn take_row(alloc: Global, rows: &mut Map<SharedRow>, pid: Pid) -> Result<Shared
 {
     match rows.remove(pid) {
         Some(row) => Ok(row),
-        None => Ok(SharedRow::new(alloc, Row::own())?),
+        None => Ok(SharedRow::new(alloc, Row::own(alloc))?),
     }
 }
 
@@ -154,7 +153,7 @@ impl Effect {
     {
         self.size = None;
         let row = take_row(alloc, &mut self.rows, pid)?;
-        let new = row.with(alloc, fd, value)?;
+        let new = row.with(fd, value)?;
         self.rows.set(pid, new)
     }
 

@@ -59,11 +59,10 @@ fn pulled_asks(alloc: Global, first: &Effect, asks: &[Ask]) -> Result<Option<Pul
     let mut moved = Vec::new(alloc);
     let mut pid = 0;
     let mut row = first.row(pid);
-    let mut near = 0;
     for ask in asks {
         row = row_of(first, ask.pid, pid, row);
         pid = ask.pid;
-        let Some((by, listed)) = ask.changed_by(row, &mut near) else {
+        let Some((by, listed)) = ask.changed_by(row) else {
             kept.push(*ask)?;
             continue;
         };

@@ -6,10 +6,10 @@ ghost use Rattle.cap_summary.specs.{Effects.leaves, Keys.Cells};
 ghost use Rattle.cap_summary.specs.{Names.Names, Names.RowWithin, RowSizes.IsSizeOf, Sorted.found, Sorted.Rises};
 ghost use Rattle.cap_summary.specs.{declared.key.Key.Key};
 
-use crate::{Base, DefaultCells, Effect, Key, Listed, Passing, Row, SharedRow, Value};
+use crate::{Base, DefaultCells, Effect, Key, Map, Passing, Row, SharedRow, Value};
 use cap_trace::Pid;
 use cap_tree::NoMemory;
-use std::alloc::AllocError;
+use std::alloc::{AllocError, Global};
 
 /// How many rows there are, and cells that they list, as far as they can be counted.
 pub(crate) fn counted(rows: &[(u32, SharedRow)]) -> usize
@@ -24,7 +24,7 @@ pub(crate) fn counted(rows: &[(u32, SharedRow)]) -> usize
     size
 }
 
-/// A clone shares the cells, and allocates nothing.
+/// A clone is the same.
 impl Clone for Row {
     ghost is_clone = { λ row copy. copy ≡ row };
 
@@ -39,17 +39,17 @@ impl Clone for Row {
 
 impl Row {
     /// The row of a process that stays as it is.
-    pub(crate) fn own() -> Row
+    pub(crate) fn own(alloc: Global) -> Row
         ensures { result ≡ own_row }
     {
         Row {
             base: Base::of(DefaultCells::Own),
             mode: None,
-            cells: Listed::empty(),
+            cells: Map::new(alloc),
         }
     }
 
-    /// The row of a process that gets the cells of this one of a process by a fork. It shares the cells.
+    /// The row of a process that gets the cells of this one of a process by a fork.
     pub(crate) fn forked(&self, pid: Pid) -> Result<Row, NoMemory>
         ensures reads { IfOk result (λ row. (cells : Cells) (p : ℕ) (k : Key)
             → row_cell cells p row k ≡ row_cell cells pid self.now k) }
@@ -71,14 +71,14 @@ impl Row {
         })
     }
 
-    /// The value that is listed at a key, if there is one. That of a descriptor is looked for near this place.
+    /// The value that is listed at a key, if there is one.
     #[inline(always)]
-    pub(crate) fn listed(&self, key: Key, near: &mut usize) -> Option<&Value>
+    pub(crate) fn listed(&self, key: Key) -> Option<&Value>
         ensures { option_copied result ≡ listed_value self.now key }
     {
         match key {
             Key::Mode => self.mode.as_ref(),
-            Key::Fd(fd) => self.cells.get_near(near, fd),
+            Key::Fd(fd) => self.cells.get(fd),
         }
     }
 
@@ -115,7 +115,7 @@ impl Effect {
         ensures { result ≡ leaves self.now pid key }
     {
         match self.row(pid) {
-            Some(row) => row.leaves(key, row.listed(key, &mut 0)),
+            Some(row) => row.leaves(key, row.listed(key)),
             None => true,
         }
     }

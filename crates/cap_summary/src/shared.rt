@@ -123,14 +123,14 @@ impl SharedRow {
     }
 
     /// This row with a value at a descriptor. It is changed in place where it has no other owners.
-    pub(crate) fn with(self, alloc: Global, fd: Fd, value: Value) -> Result<SharedRow, NoMemory>
+    pub(crate) fn with(self, fd: Fd, value: Value) -> Result<SharedRow, NoMemory>
         ensures base { IfOk result (λ row. row.base ≡ self.base) }
         ensures mode { IfOk result (λ row. row.mode ≡ self.mode) }
         ensures cells { IfOk result (λ row. (g : ℕ) → found row.cells g
             ≡ (if g == fd then Some value else found self.cells g)) }
     {
         let mut row = self.row;
-        Rc::make_mut(&mut row)?.cells.set(alloc, fd, value)?;
+        Rc::make_mut(&mut row)?.cells.set(fd, value)?;
         Ok(SharedRow { row })
     }
 }

@@ -103,7 +103,7 @@ impl Effect {
             → has_cell names pid key ≡ true → seen_within (has_cell names) result ≡ true }
     {
         match self.row(pid) {
-            Some(row) => row.view(pid, key, row.listed(key, &mut 0)),
+            Some(row) => row.view(pid, key, row.listed(key)),
             None => Seen::Same(pid, key),
         }
     }

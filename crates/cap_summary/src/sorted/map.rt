@@ -37,6 +37,22 @@ impl<V: Clone> Clone for Map<V> {
     }
 }
 
+impl<V: PartialEq> PartialEq for Map<V> {
+    ghost use Rattle.std.specs.{Cmp.Lexicographic.lists_per};
+    ghost use Rattle.std.specs.Cmp.{and_per, on_per, partial_equiv_from_equiv, nat_eq_equiv};
+    ghost use Rattle.std.specs.Prelude.{◌&&◌, ◌==◌};
+    ghost use Rattle.cap_summary.specs.{pointwise};
+
+    ghost eq = { pointwise (λ x y. x.0 == y.0 && V.eq x.1 y.1) };
+
+    ghost laws = { lists_per (and_per (on_per (λ x. x.0) (partial_equiv_from_equiv nat_eq_equiv))
+        (on_per (λ x. x.1) V.laws)) };
+
+    fn eq(&self, other: &Map<V>) -> bool {
+        self.entries == other.entries
+    }
+}
+
 /// The index of the entry that has the key, or else where it would go. Halves the entries at each step.
 fn place_of<V>(entries: &[(u32, V)], key: u32) -> Result<usize, usize>
     requires { Rises entries.now }
@@ -47,30 +63,6 @@ fn place_of<V>(entries: &[(u32, V)], key: u32) -> Result<usize, usize>
     ensures absent { IfErr result (λ _. found entries.now key ≡ None) }
 {
     entries.binary_search_by_key(&key, |entry| entry.0)
-}
-
-/// The index of the entry that has the key, or else where it would go. Goes up from a place where all entries below it
-/// have smaller keys, else does what [`place_of`] does.
-#[inline(always)]
-fn place_near<V>(entries: &[(u32, V)], near: usize, key: u32) -> Result<usize, usize>
-    requires { Rises entries.now }
-    ensures at { IfOk result (IsAt entries.now key) }
-    ensures value { IfOk result
-        (λ at. found entries.now key ≡ option_map (λ entry. entry.1) (slice_get entries.now at)) }
-    ensures absent { IfErr result (λ _. found entries.now key ≡ None) }
-{
-    if near == 0 || near > entries.len() || key <= entries[near - 1].0 {
-        return place_of(entries, key);
-    }
-    let mut at = near;
-    while at < entries.len() && entries[at].0 < key {
-        at += 1;
-    }
-    if at < entries.len() && entries[at].0 == key {
-        Ok(at)
-    } else {
-        Err(at)
-    }
 }
 
 impl<V> Map<V> {
@@ -89,24 +81,6 @@ impl<V> Map<V> {
         match place_of(&self.entries, key) {
             Ok(at) => Some(&self.entries[at].1),
             Err(_) => None,
-        }
-    }
-
-    /// The value at a key, if there is one, looked for from this place up, which becomes that of the key. So keys that rise
-    /// are looked up in one pass.
-    #[inline(always)]
-    pub(crate) fn get_near(&self, near: &mut usize, key: u32) -> Option<&V>
-        ensures { option_copied result ≡ found self.now key }
-    {
-        match place_near(&self.entries, *near, key) {
-            Ok(at) => {
-                *near = at;
-                Some(&self.entries[at].1)
-            }
-            Err(at) => {
-                *near = at;
-                None
-            }
         }
     }
 }

@@ -1,6 +1,6 @@
 use Rattle.cap_summary.specs.{all as all_rights, Unsure, Names.IsListedWithin, declared.value.Value.Value}
-use Rattle.cap_summary.proofs.{take_all, IfOk-weaker, LineListed.started_more, LineListed.each_put}
-use Rattle.std.specs.Prelude.{◌≡◌, ℕ, get_or, refl}
+use Rattle.cap_summary.proofs.{take_all, LineListed.started_more, LineListed.each_put}
+use Rattle.std.specs.Prelude.{ℕ, get_or, refl}
 use Rattle.cap_summary.proofs.line.started_cells.Goals as goal
 
 pub loop-fd-preserved : goal.loop-fd-preserved
@@ -16,11 +16,10 @@ loop-fd-preserved c = record {
 }
 
 pub returns-clause-cells : goal.returns-clause-cells
-returns-clause-cells c = IfOk-weaker c.of.result _ _ (λ listed is.
-    rw is (rw (c.deref-fd-items.ensures.value, c.in-Ok.ensures) at (rw (take_all c.loop-fd.fd-index
-    c.deref-fd-items.result.now c.loop-fd-test.false) at c.loop-fd.invariant.cells))) c.of.ensures
+returns-clause-cells c =
+    rw (c.deref-fd-items.ensures.value, c.in-Ok.ensures) at (rw (take_all c.loop-fd.fd-index
+    c.deref-fd-items.result.now c.loop-fd-test.false) at c.loop-fd.invariant.cells)
 
 pub returns-clause-names : goal.returns-clause-names
-returns-clause-names c = IfOk-weaker c.of.result _ _ (λ listed is names all.
-    rw is (c.loop-fd.invariant.names names (rw (c.deref-fd-items.ensures.value, c.in-Ok.ensures) all)))
-    c.of.ensures
+returns-clause-names c = λ names all.
+    c.loop-fd.invariant.names names (rw (c.deref-fd-items.ensures.value, c.in-Ok.ensures) all)

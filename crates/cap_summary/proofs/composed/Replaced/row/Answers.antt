@@ -1,7 +1,7 @@
 use Rattle.std.specs.Prelude.{◌≡◌, true, false, Option, Some, option_copied}
 use Rattle.cap_summary.specs.{Composing.IsComposedSo, Composing.IsOldAt, Sorted.found, declared.effect.Effect.Effect}
 use Rattle.cap_summary.specs.{declared.effect.Row.Row}
-use Rattle.cap_summary.proofs.{Bor, sym, subst, ◌∙◌, IfSome_then, Equal.same_given}
+use Rattle.cap_summary.proofs.{sym, subst, ◌∙◌, IfSome_then, Equal.same_given}
 use Rattle.cap_summary.proofs.OwnCells.{copied, first_replaced, second_replaced}
 use Rattle.cap_summary.proofs.composed.Replaced.row.Goals as goal
 

@@ -1,4 +1,5 @@
-use Rattle.cap_summary.specs.{declared.effect.Row.Row}
+use Rattle.std.specs.Prelude.{ℕ}
+use Rattle.cap_summary.specs.{Composing.IsHandedSo, Sorted.found, declared.effect.Row.Row}
 use Rattle.cap_summary.proofs.RowsComposed.{composed_row, composed_leaves}
 use Rattle.cap_summary.proofs.effect.Effect.row_after.Goals as goal
 
@@ -7,17 +8,19 @@ returns c =
     let first = c.args.self.now in
     let p = c.args.pid in
     let row = c.args.row.now in
-    let listed = c.in_ok-cells in
-    let handed = c.in_ok-handed in
+    let listed = c.in_ok-cells.cells in
+    let handed = c.handed-handed in
     let mode = c.in_ok-mode.ensures in
-    let new : Row = record { base = handed.handed.base; mode = c.in_ok-mode.mode; cells = listed.cells } in
+    let new : Row = record { base = handed.result.base; mode = c.in_ok-mode.mode; cells = listed } in
+    let each : (f : ℕ) → IsHandedSo first handed.result.passing row.base.closed_from f (found row.cells f)
+    (found handed.result.cells.now f) (found listed f) = λ f. rw c.entries.ensures.all at (c.in_ok-cells.ensures f) in
     record {
-      cells = composed_row first p row new handed.handed.passing handed.handed.cells mode.reads listed.ensures
+      cells = composed_row first p row new handed.result.passing handed.result.cells.now mode.reads each
           handed.ensures.closed handed.ensures.«open»;
-      leaves = composed_leaves first p row new handed.handed.passing handed.handed.cells mode.leaves
-          handed.ensures.leaves listed.ensures;
+      leaves = composed_leaves first p row new handed.result.passing handed.result.cells.now mode.leaves
+          handed.ensures.leaves each;
       names = λ names of read here own. record {
-        cells = λ f. (listed.ensures f).names names of read (here.row.cells f) (own.cells f)
+        cells = λ f. (each f).names names of read (here.row.cells f) (own.cells f)
             (handed.ensures.cells_named names of read here.pid here.row.others f);
         others = handed.ensures.others_named names of read here.pid here.row.others own.others;
         mode = mode.names names of read here.pid here.row.mode own.mode;
