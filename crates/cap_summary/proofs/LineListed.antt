@@ -1,15 +1,15 @@
 -- What one line lists, that the line names it, and a cell that is set in place.
-use Rattle.std.specs.Prelude.{◌≡◌, ◌+◌, ◌<◌, ◌≤◌, ◌||◌, ℕ, eqb, List, Bool, true, false, cond, Option, Some, length}
+use Rattle.std.specs.Prelude.{◌≡◌, ◌+◌, ◌<◌, ◌||◌, ℕ, eqb, List, Bool, true, false, cond, Option, Some, length}
 use Rattle.std.specs.Prelude.{get_or, take, refl, ◌==◌, ◌∷◌, [], IfSome, All, ◌&&◌, None, unwrap_or}
 use Rattle.cap_summary.specs.{option_map_or, list_any, all, Unsure, Closed, Outside, LineEffect, fds_spelled}
 use Rattle.cap_summary.specs.{Keys.mode_cell, declared.base.Base.Base}
-use Rattle.cap_summary.specs.{declared.value.Value.Value, Op, declared.key.Key.Key, Cell, declared.effect.Effect.Effect}
-use Rattle.cap_summary.specs.{declared.effect.Row.Row, Keys.Cells, Sorted.found, Values.read, Values.reads_within}
-use Rattle.cap_summary.specs.Lines.{IsStarted, IsRowOf, is_cell}
-use Rattle.cap_summary.specs.Names.{Names, has_cell, IsListedWithin, LineWithin, RowWithin, RowsWithin, IsRowWithin}
+use Rattle.cap_summary.specs.{declared.value.Value.Value, declared.key.Key.Key, Cell, declared.effect.Effect.Effect}
+use Rattle.cap_summary.specs.{declared.effect.Row.Row, Keys.Cells, Sorted.found, Values.read}
+use Rattle.cap_summary.specs.Lines.{IsStarted, line_after, is_cell}
+use Rattle.cap_summary.specs.Names.{Names, IsListedWithin, RowWithin, RowsWithin, IsRowWithin}
 use Rattle.cap_summary.specs.{Names.EffectWithin}
 use Rattle.cap_summary.specs.Effects.{own_row, base_cell, row_cell, cell_in, changed}
-use Rattle.cap_summary.proofs.{Bor, list_any_more, or-false, or-true, eq-eqb, sym, subst, eqb-true, and_from}
+use Rattle.cap_summary.proofs.{Bor, list_any_more, or-false, or-true, eq-eqb, sym, subst, eqb-true}
 use Rattle.cap_summary.proofs.{All-head, All-tail, ap, ◌∙◌}
 
 one_more : (cells : Cells) (v : Value) (b any : Bool) (o : Option Value)
@@ -31,7 +31,8 @@ started_more fds i listed more within set started cells f =
 pub started_row : (line : LineEffect) (fds : Bor (List ℕ)) (me : ℕ) (base : Base) (mode : Value) (listed : List (ℕ × Value))
     → line ≡ LineEffect.Start fds → ((cells : Cells) (f : ℕ) → base_cell cells me base f ≡ Closed)
     → ((cells : Cells) → read cells mode ≡ mode_cell Outside) → IsStarted (fds_spelled fds.now) listed
-    → IsRowOf line me (record { base = base; mode = Some mode; cells = listed })
+    → (cells : Cells) (k : Key)
+    → row_cell cells me (record { base = base; mode = Some mode; cells = listed }) k ≡ line_after line me cells me k
 started_row line fds me base mode listed is closed outside started cells Key.Mode =
     rw (is, eq-eqb me me refl) (outside cells)
 started_row line fds me base mode listed is closed outside started cells (Key.Fd f) =

@@ -1,15 +1,14 @@
 -- The cells after a line, by the rows of the processes that it touches.
 use Rattle.cap_summary.specs.{declared.effect.Effect.Effect, declared.effect.Row.Row, declared.key.Key.Key, Lines.IsPut}
-use Rattle.cap_summary.specs.{Lines.turned_cell, Lines.line_after, Lines.IsThenLine, Lines.is_touched, Lines.LeavesOwn}
-use Rattle.cap_summary.specs.{Unknown, Closed, LineEffect, applied, follows, Keys.Cells, Lines.LeavesPut, Lines.IsRowOf}
+use Rattle.cap_summary.specs.{Lines.turned_cell, Lines.line_after, Lines.IsThenLine, Lines.is_touched, is_child}
+use Rattle.cap_summary.specs.{Unknown, Closed, LineEffect, applied, follows, Keys.Cells, Lines.LeavesPut}
 use Rattle.cap_summary.specs.{Set, Clear, Unsure, Cell, Held, same, kept, given, taken, stays, touched}
-use Rattle.cap_summary.specs.Effects.{row_cell, changed, IsRowAfter, row_leaves, leaves, LineLeaves, LeavesThenLine}
+use Rattle.cap_summary.specs.Effects.{row_cell, changed, row_leaves, leaves, LineLeaves, LeavesThenLine}
 use Rattle.cap_summary.proofs.{sym, ap, ◌∙◌, inl, inr, subst, eqb-true, eq-eqb, or-false, Bools.or_right}
 use Rattle.std.specs.Prelude.{◌≡◌, ◌==◌, ◌||◌, ℕ, Bool, true, false, cond, refl}
 
 -- ---- a process that isn't touched keeps its cells
 untouched_left : (line : LineEffect) (me p : ℕ) → is_touched line me p ≡ false → (k : Key) → LineLeaves line me p k
-untouched_left LineEffect.Keep me p is Key.Mode = refl
 untouched_left LineEffect.Keep me p is (Key.Fd f) = refl
 untouched_left (LineEffect.Fork child) me p is Key.Mode = rw is refl
 untouched_left (LineEffect.Fork child) me p is (Key.Fd f) = rw is refl
@@ -65,7 +64,6 @@ module _ (me : ℕ) (cells : Cells) where
 
 touched_so : (line : LineEffect) (me p : ℕ) (cells : Cells) (k : Key) → is_touched line me p ≡ true
     → line_after line me cells p k ≡ line_after line me cells me k
-touched_so LineEffect.Keep me p cells k is = absurd cc
 touched_so (LineEffect.Fork child) me p cells Key.Mode is = rw is (sym (forked_mode me cells (me == child)))
 touched_so (LineEffect.Fork child) me p cells (Key.Fd f) is =
     rw is (same_is (cells me (Key.Fd f)) ∙ sym (forked_cell me cells f (me == child)))
@@ -77,8 +75,9 @@ touched_so (LineEffect.ForkAs child g) me p cells (Key.Fd f) is =
 touched_so line me p cells k is = ap (λ q. line_after line me cells q k) (eqb-true p me is)
 
 module _ (first new : Effect) (line : LineEffect) (me : ℕ) (own row : Row) where
-  pub then_line : IsRowOf line me own → IsRowAfter first me own row → IsPut line me row first.rows new.rows
-      → IsThenLine first line me new
+  pub then_line : ((cells : Cells) (k : Key) → row_cell cells me own k ≡ line_after line me cells me k)
+      → ((cells : Cells) (k : Key) → row_cell cells me row k ≡ row_cell (changed first cells) me own k)
+      → IsPut line me row first.rows new.rows → IsThenLine first line me new
   then_line of_line after put cells p k = put cells p k ∙ by (is_touched line me p) refl
     where
       by : (b : Bool) → is_touched line me p ≡ b
@@ -87,7 +86,7 @@ module _ (first new : Effect) (line : LineEffect) (me : ℕ) (own row : Row) whe
           ∙ sym (touched_so line me p (changed first cells) k is)
       by false is = sym (left_so line me p (changed first cells) k (untouched_left line me p is k))
 
-  pub then_leaves : LeavesOwn line me own
+  pub then_leaves : (is_child line me ≡ false → (k : Key) → row_leaves own k ≡ true → LineLeaves line me me k)
       → ((k : Key) → row_leaves row k ≡ true → (leaves first me k ≡ true) × (row_leaves own k ≡ true))
       → LeavesPut line me row first.rows new.rows → LeavesThenLine first line me new
   then_leaves own_left after put p k left = elim (put p k left) [

@@ -1,6 +1,6 @@
 -- What is named by some lines is named by more.
 use Rattle.cap_summary.specs.{declared.base.DefaultCells.DefaultCells, declared.precondition.Precondition.Precondition}
-use Rattle.cap_summary.specs.{Touch, declared.effect.Effect.Effect, declared.effect.Row.Row, declared.value.Value.Value}
+use Rattle.cap_summary.specs.{declared.effect.Effect.Effect, declared.effect.Row.Row, declared.value.Value.Value}
 use Rattle.cap_summary.specs.{given, effect_touch, requirement, Sorted.found, Values.reads_within, declared.key.Key.Key}
 use Rattle.cap_summary.specs.{list_any, Step, LineEffect, Unknown, same, kept, taken, touch, names_pid, args_name}
 use Rattle.cap_summary.specs.Names.{line_names_fd, item_answers_fd, Names, IsListedWithin, others_within, DemandWithin}
@@ -9,7 +9,7 @@ use Rattle.cap_summary.specs.Names.{names_in, AreAmong, has_cell, RowWithin}
 use Rattle.cap_summary.proofs.{or_left as or_first, or_right as or_second, Bools.and_right, LineNamed.named_one_by_one}
 use Rattle.cap_summary.proofs.{◌∙◌, or-true, and_from, eq-eqb, list_any-append, Bools.and_left}
 use Rattle.cap_machine.proofs.{NamedFds.named_checks, Naming.own_processes}
-use Rattle.std.specs.Prelude.{◌==◌, ◌||◌, ◌&&◌, ◌++◌, Bool, true, false, List, Option, Some, None, refl, cond, IfSome}
+use Rattle.std.specs.Prelude.{◌==◌, ◌++◌, Bool, true, false, List, Option, Some, None, refl, cond, IfSome}
 use Rattle.std.specs.Prelude.{◌≡◌, ◌∷◌, ℕ, []}
 use Rattle.std.proofs.{lemmas.Bool.true_from_ne_false}
 

@@ -1,31 +1,25 @@
 -- The cells of a process after two segments.
 use Rattle.cap_summary.specs.{declared.base.Passing.Passing, declared.effect.Effect.Effect, declared.value.Value.Value}
 use Rattle.cap_summary.specs.{option_map_or, Composing.IsHandedSo, declared.base.Base.Base, declared.effect.Row.Row}
-use Rattle.cap_summary.specs.{option_or, Cell, Closed, Keys.Cells, Sorted.found, Values.read, declared.key.Key.Key}
-use Rattle.cap_summary.specs.Effects.{base_cell, handed_on, row_cell, changed, IsRowAfter, base_leaves, row_leaves}
+use Rattle.cap_summary.specs.{Cell, Closed, Keys.Cells, Sorted.found, Values.read, declared.key.Key.Key}
+use Rattle.cap_summary.specs.Effects.{base_cell, row_cell, changed, base_leaves, row_leaves}
 use Rattle.cap_summary.specs.Effects.{passed, is_from, is_own, leaves}
-use Rattle.cap_summary.proofs.{◌∙◌, and_from, not-true, Bools.and_left, Bools.and_right}
-use Rattle.std.specs.Prelude.{ℕ, Bool, false, Option, Some, None, option_map, List, unwrap_or, option_and_then, is_none}
+use Rattle.cap_summary.proofs.{ap, ◌∙◌, and_from, not-true, Bools.and_left, Bools.and_right}
+use Rattle.std.specs.Prelude.{ℕ, Bool, false, cond, Option, Some, None, List, is_none}
 use Rattle.std.specs.Prelude.{◌≡◌, ◌&&◌, ◌||◌, not, true, refl}
 
-map_or_is : {X : Type 0} (g : X → Cell) (o : Option X) (d : Cell) → option_map_or g o d ≡ unwrap_or (option_map g o) d
-map_or_is g None d = refl
-map_or_is g (Some x) d = refl
-
-module _ (cells after : Cells) (p : ℕ) (passing : Passing) (base : Base) (rest : Cell) (f : ℕ) where
-  -- what is listed, or handed on, or neither
-  cases : (listed handed : Option Value) (b : Bool) → is_from base.closed_from f ≡ b
-      → (is_from base.closed_from f ≡ true → rest ≡ Closed)
+module _ (cells after : Cells) (p : ℕ) (passing : Passing) (base : Base) (rest : Cell) (f : ℕ)
+    (closed : is_from base.closed_from f ≡ true → rest ≡ Closed) where
+  -- what is handed on, or not
+  handed_so : (handed : Option Value) (b : Bool) → is_from base.closed_from f ≡ b
       → (is_from base.closed_from f ≡ false
       → option_map_or (λ v. passed passing (read cells v)) handed rest ≡ base_cell after p base f)
-      → unwrap_or (option_or (option_map (read after) listed)
-      (option_and_then (handed_on passing base.closed_from f) (option_map (read cells) handed))) rest
-      ≡ option_map_or (read after) listed (base_cell after p base f)
-  cases (Some v) handed b is closed below = refl
-  cases None None true is closed below = closed is ∙ rw is refl
-  cases None (Some v) true is closed below = rw is (closed is)
-  cases None None false is closed below = below is
-  cases None (Some v) false is closed below = let here = rw is at (below is) in rw is here
+      → option_map_or (λ v. cond (is_from base.closed_from f) rest (passed passing (read cells v))) handed rest
+      ≡ base_cell after p base f
+  handed_so None true is below = closed is ∙ rw is refl
+  handed_so (Some v) true is below = rw is (closed is)
+  handed_so None false is below = below is
+  handed_so (Some v) false is below = let here = rw is at (below is) in rw is here
 
 -- a row after two segments, where `new` lists what the second lists and what it is handed on
 pub composed_row : (first : Effect) (p : ℕ) (row new : Row) (passing : Passing) (handed : List (ℕ × Value))
@@ -35,12 +29,13 @@ pub composed_row : (first : Effect) (p : ℕ) (row new : Row) (passing : Passing
     → ((cells : Cells) (f : ℕ) → is_from row.base.closed_from f ≡ false
     → option_map_or (λ v. passed passing (read cells v)) (found handed f) (base_cell cells p new.base f)
     ≡ base_cell (changed first cells) p row.base f)
-    → IsRowAfter first p row new
+    → (cells : Cells) (k : Key) → row_cell cells p new k ≡ row_cell (changed first cells) p row k
 composed_row first p row new passing handed mode each closed below cells Key.Mode = mode cells
 composed_row first p row new passing handed mode each closed below cells (Key.Fd f) =
-    map_or_is (read cells) (found new.cells f) (base_cell cells p new.base f)
-    ∙ rw ((each f).cells cells) (cases cells (changed first cells) p passing row.base (base_cell cells p new.base f) f
-    (found row.cells f) (found handed f) (is_from row.base.closed_from f) refl (closed cells f) (below cells f))
+    (each f).cells cells (base_cell cells p new.base f)
+    ∙ ap (option_map_or (read (changed first cells)) (found row.cells f)) (handed_so cells (changed first cells) p passing
+    row.base (base_cell cells p new.base f) f (closed cells f) (found handed f) (is_from row.base.closed_from f) refl
+    (below cells f))
 
 -- a descriptor that isn't listed after both is listed in the second one nowhere, and is closed there or not handed on
 unlisted_in_both : (listed handed new closed : Bool) → new ≡ (listed && (handed || closed)) → new ≡ true

@@ -1,39 +1,27 @@
 -- A table that is made of two, key by key.
 use Rattle.cap_summary.specs.{option_or, Sorted.found, Sorted.RisesFrom, Sorted.Rises}
-use Rattle.cap_summary.proofs.{inl, inr, sym, ap, ◌∙◌, arith, cases_lt, ne_eqb, nat_tests, SortedFound.found_below}
-use Rattle.std.specs.Prelude.{◌||◌, ◌++◌, if◌then◌else◌, Bool, true, false, List, [], Option, Some, None, refl, is_some}
+use Rattle.cap_summary.proofs.{inl, inr, sym, ap, ◌∙◌, arith, cases_lt, eq-eqb, ne_eqb, nat_tests, SortedFound.found_below}
+use Rattle.std.specs.Prelude.{◌||◌, ◌++◌, if◌then◌else◌, true, List, [], Option, Some, None, refl, is_some}
 use Rattle.std.specs.Prelude.{◌≡◌, ◌+◌, ◌<◌, ◌≤◌, ◌∷◌, ℕ, eqb}
 use mathlib.Core.Bool.{false≢true}
 
--- each key is below the bound
-abbrev pub AllBelow : {V : Type 0} → ℕ → List (ℕ × V) → Type 0
-AllBelow bound [] = Unit {0}
-AllBelow bound ((k, v) ∷ rest) = (k < bound) × AllBelow bound rest
-
-AllBelow-more : {V : Type 0} (a b : ℕ) (l : List (ℕ × V)) → a ≤ b → AllBelow a l → AllBelow b l
-AllBelow-more a b [] le all = tt
-AllBelow-more a b ((k, v) ∷ rest) le all = (omega (arith, all.0), AllBelow-more a b rest le all.1)
-
-AllBelow-append : {V : Type 0} (b : ℕ) (l : List (ℕ × V)) (k : ℕ) (v : V) → AllBelow b l → k < b
-    → AllBelow b (l ++ (k, v) ∷ [])
-AllBelow-append b [] k v all below = (below, tt)
-AllBelow-append b ((j, u) ∷ rest) k v all below = (all.0, AllBelow-append b rest k v all.1 below)
-
--- a key above all isn't found
-found_past : {V : Type 0} (b : ℕ) (l : List (ℕ × V)) (key : ℕ) → AllBelow b l → b ≤ key → found l key ≡ None
-found_past b [] key all past = refl
-found_past b ((k, v) ∷ rest) key all past =
-    let lower : k < b = all.0 in
-    let later = found_past b rest key all.1 past in
-    grind (arith, nat_tests, later)
+-- a key from the bound on isn't found
+abbrev pub EndsBelow : {V : Type 0} → ℕ → List (ℕ × V) → Type 0
+EndsBelow bound l = (k : ℕ) → bound ≤ k → found l k ≡ None
 
 -- a key that is greater than all goes to the end
-RisesFrom-append : {V : Type 0} (b : ℕ) (l : List (ℕ × V)) (k : ℕ) (v : V) → RisesFrom b l → AllBelow k l → b ≤ k
+RisesFrom-append : {V : Type 0} (b : ℕ) (l : List (ℕ × V)) (k : ℕ) (v : V) → RisesFrom b l → EndsBelow k l → b ≤ k
     → RisesFrom b (l ++ (k, v) ∷ [])
-RisesFrom-append b [] k v rises all le = (le, tt)
-RisesFrom-append b ((j, u) ∷ rest) k v rises all le =
-    let lower : j < k = all.0 in
-    (rises.0, RisesFrom-append (j + 1) rest k v rises.1 all.1 (omega arith))
+RisesFrom-append b [] k v rises ends le = (le, tt)
+RisesFrom-append b ((j, u) ∷ rest) k v rises ends le =
+    let lower : j < k = elim (cases_lt j k) [
+      | inl lower ↦ lower
+      | inr over ↦ absurd (let none = ends j over in grind (arith, nat_tests, none))
+    ] in (
+      rises.0,
+      RisesFrom-append (j + 1) rest k v rises.1 (λ q over. rw (ne_eqb j q (omega (arith, over))) at (ends q over))
+          (omega arith),
+    )
 
 pub found-append : {V : Type 0} (l : List (ℕ × V)) (k : ℕ) (v : V) (key : ℕ)
     → found (l ++ (k, v) ∷ []) key ≡ option_or (found l key) (if eqb k key then Some v else None)
@@ -51,7 +39,7 @@ pub record IsMergedTo {L R O : Type 0} (gives : ℕ → Option L → Option R �
   pub left_rest : (k : ℕ) → bound ≤ k → found lefts k ≡ found left k
   pub right_rest : (k : ℕ) → bound ≤ k → found rights k ≡ found right k
   pub merged_rises : Rises merged
-  pub merged_below : AllBelow bound merged
+  pub merged_below : EndsBelow bound merged
   pub given : (k : ℕ) → k < bound → gives k (found left k) (found right k) (found merged k)
 
 -- keys that rise from a bound rise from a lower one too
@@ -62,19 +50,6 @@ RisesFrom-lower a b ((k, v) ∷ rest) le rises = (omega (arith, rises.0), rises.
 pub Rises-from : {V : Type 0} (b : ℕ) (l : List (ℕ × V)) → RisesFrom b l → Rises l
 Rises-from b l rises = RisesFrom-lower 0 b l (omega arith) rises
 
-option_or-none : {X : Type 0} (o : Option X) → option_or o None ≡ o
-option_or-none None = refl
-option_or-none (Some x) = refl
-
--- a new last key is found, and the keys below it are found as before
-found-append_last : {V : Type 0} (l : List (ℕ × V)) (k : ℕ) (v : V) → AllBelow k l → found (l ++ (k, v) ∷ []) k ≡ Some v
-found-append_last l k v all = grind (arith, nat_tests, found-append l k v k, found_past k l k all (omega arith))
-
-found-append_below : {V : Type 0} (l : List (ℕ × V)) (k : ℕ) (v : V) (key : ℕ) → key < k
-    → found (l ++ (k, v) ∷ []) key ≡ found l key
-found-append_below l k v key below = found-append l k v key
-    ∙ rw (ne_eqb k key (omega arith)) (option_or-none (found l key))
-
 -- one of the rest has the key, so the key isn't below the bound
 pub bound_le : {L R : Type 0} (lefts : List (ℕ × L)) (rights : List (ℕ × R)) (bound key : ℕ) → RisesFrom bound lefts
     → RisesFrom bound rights → (is_some (found lefts key) || is_some (found rights key)) ≡ true → bound ≤ key
@@ -83,6 +58,10 @@ bound_le lefts rights bound key left right one = elim (cases_lt key bound) [
       absurd (false≢true (rw (found_below bound lefts key left below, found_below bound rights key right below) at one))
   | inr at_least ↦ at_least
 ]
+
+or_none : {X : Type 0} (o : Option X) → option_or o None ≡ o
+or_none None = refl
+or_none (Some x) = refl
 
 module _ {L R O : Type 0} {gives : ℕ → Option L → Option R → Option O
     → Type 0} {left lefts : List (ℕ × L)} {right rights : List
@@ -97,11 +76,8 @@ module _ {L R O : Type 0} {gives : ℕ → Option L → Option R → Option O
         ∙ ap (λ (l : List (ℕ × L)). found l k) no_left in
         let none_right : found right k ≡ None = sym (so_far.right_rest k past)
         ∙ ap (λ (l : List (ℕ × R)). found l k) no_right in
-        rw (none_left, none_right, found_past bound merged k so_far.merged_below past) (neither k)
+        rw (none_left, none_right, so_far.merged_below k past) (neither k)
   ]
-
-  below_key : (key : ℕ) → bound ≤ key → AllBelow key merged
-  below_key key le = AllBelow-more bound key merged le so_far.merged_below
 
   -- the least key of the rest is merged
   module _ (neither : (k : ℕ) → gives k None None None) (key : ℕ) (le : bound ≤ key) (lefts_rise : RisesFrom key lefts)
@@ -109,7 +85,7 @@ module _ {L R O : Type 0} {gives : ℕ → Option L → Option R → Option O
       (left_rises : RisesFrom (key + 1) above_left) (right_rises : RisesFrom (key + 1) above_right)
       (left_above : (k : ℕ) → key < k → found above_left k ≡ found lefts k)
       (right_above : (k : ℕ) → key < k → found above_right k ≡ found rights k) where
-    merged_more : (more : List (ℕ × O)) → Rises more → AllBelow (key + 1) more
+    merged_more : (more : List (ℕ × O)) → Rises more → EndsBelow (key + 1) more
         → ((k : ℕ) → k < key → found more k ≡ found merged k)
         → gives key (found lefts key) (found rights key) (found more key)
         → IsMergedTo gives left above_left right above_right more (key + 1)
@@ -128,7 +104,7 @@ module _ {L R O : Type 0} {gives : ℕ → Option L → Option R → Option O
             ← so_far.right_rest k past,
             found_below key lefts k lefts_rise lower,
             found_below key rights k rights_rise lower,
-            found_past bound merged k so_far.merged_below past,
+            so_far.merged_below k past,
           ) (neither k)
         ])
         | inr past ↦
@@ -140,13 +116,16 @@ module _ {L R O : Type 0} {gives : ℕ → Option L → Option R → Option O
     -- it stays out
     pub left_out : gives key (found lefts key) (found rights key) None
         → IsMergedTo gives left above_left right above_right merged (key + 1)
-    left_out here = merged_more merged so_far.merged_rises (AllBelow-more key (key + 1) merged (omega arith) (below_key key le))
-        (λ k lower. refl) (rw (found_past key merged key (below_key key le) (omega arith)) here)
+    left_out here = merged_more merged so_far.merged_rises (λ k over. so_far.merged_below k (omega (arith, over)))
+        (λ k lower. refl) (rw (so_far.merged_below key le) here)
 
     -- or it is put last
     pub put_last : (v : O) → gives key (found lefts key) (found rights key) (Some v)
         → IsMergedTo gives left above_left right above_right (merged ++ (key, v) ∷ []) (key + 1)
-    put_last v here = merged_more (merged ++ (key, v) ∷ [])
-        (RisesFrom-append 0 merged key v so_far.merged_rises (below_key key le) (omega arith))
-        (AllBelow-append (key + 1) merged key v (AllBelow-more key (key + 1) merged (omega arith) (below_key key le)) (omega arith))
-        (λ k lower. found-append_below merged key v k lower) (rw (found-append_last merged key v (below_key key le)) here)
+    put_last v here =
+        let put = found-append merged key v in
+        merged_more (merged ++ (key, v) ∷ []) (RisesFrom-append 0 merged key v so_far.merged_rises
+        (λ k over. so_far.merged_below k (omega (arith, over))) (omega arith))
+        (λ k over. rw (put k, so_far.merged_below k (omega (arith, over)), ne_eqb key k (omega (arith, over))) refl)
+        (λ k lower. put k ∙ rw (ne_eqb key k (omega (arith, lower))) (or_none (found merged k)))
+        (rw (put key, so_far.merged_below key le, eq-eqb key key refl) here)

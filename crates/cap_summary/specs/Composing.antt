@@ -3,18 +3,18 @@
 use Rattle.cap_summary.specs.{Preconditions.IsSamePrecondition, declared.composed.Replaced.Replaced, Names.IsRowWithin}
 use Rattle.cap_summary.specs.{Preconditions.IsAskedByBoth, declared.base.Passing.Passing, declared.effect.Effect.Effect}
 use Rattle.cap_summary.specs.{part_at, declared.effect.Row.Row, declared.known.Known.Known, declared.value.Value.Value}
-use Rattle.cap_summary.specs.{option_and_then, Keys.Cells, declared.key.Key.Key, Names.IsListedWithin, Names.ReadWithin}
-use Rattle.cap_summary.specs.{option_or, Step, Similarity, Side, Left, Right, Sorted.found, Values.read, Names.Names}
-use Rattle.cap_summary.specs.Effects.{is_from, handed_on, cell_in, changed, leaves_in}
-use Rattle.std.specs.Prelude.{◌≡◌, ◌<◌, ◌||◌, ◌&&◌, ℕ, true, List, length, Option, IfSome, is_none, option_map}
+use Rattle.cap_summary.specs.{Cell, option_map_or, Keys.Cells, declared.key.Key.Key, Names.IsListedWithin, Names.ReadWithin}
+use Rattle.cap_summary.specs.{Step, Similarity, Side, Left, Right, Sorted.found, Values.read, Names.Names}
+use Rattle.cap_summary.specs.Effects.{is_from, passed, cell_in, changed, leaves_in}
+use Rattle.std.specs.Prelude.{◌≡◌, ◌<◌, ◌||◌, ◌&&◌, ℕ, true, List, length, Option, IfSome, is_none, if◌then◌else◌}
 
 -- what is listed for a descriptor: what the second segment lists, by the cells before the first, or else what the first
 -- one lists, handed on; and what that names
 pub record IsHandedSo (first : Effect) (passing : Passing) (closed_from : Option ℕ) (f : ℕ)
     (listed handed new : Option Value) : Type 0 where
-  pub cells : (cells : Cells) → option_map (read cells) new
-      ≡ option_or (option_map (read (changed first cells)) listed)
-      (option_and_then (handed_on passing closed_from f) (option_map (read cells) handed))
+  pub cells : (cells : Cells) (rest : Cell) → option_map_or (read cells) new rest
+      ≡ option_map_or (read (changed first cells)) listed
+      (option_map_or (λ v. if is_from closed_from f then rest else passed passing (read cells v)) handed rest)
   pub unlisted : is_none new ≡ (is_none listed && (is_none handed || is_from closed_from f))
   pub names : (names of : Names) → ReadWithin names of first → IfSome listed (IsListedWithin of f)
       → IfSome listed (IsListedWithin names f) → IfSome handed (IsListedWithin names f)

@@ -50,14 +50,6 @@ cell_in cells row p k = option_map_or (λ row. row_cell cells p row k) row (cell
 abbrev pub changed : Effect → Cells → Cells
 changed effect cells p k = cell_in cells (found effect.rows p) p k
 
--- a cell where it is handed on, below the descriptor from which cells are closed
-abbrev pub handed_on : Passing → Option ℕ → ℕ → Cell → Option Cell
-handed_on passing closed_from f c = if is_from closed_from f then None else Some (passed passing c)
-
--- a row after two segments, of process p, which the second one gives this row
-abbrev pub IsRowAfter : Effect → ℕ → Row → Row → Type 0
-IsRowAfter first p row new = (cells : Cells) (k : Key) → row_cell cells p new k ≡ row_cell (changed first cells) p row k
-
 -- the state after a start and effects
 abbrev pub state_before : Before → State
 state_before (At start) = start_state start.now

@@ -1,10 +1,10 @@
 -- What one line does to each cell and to each mode, by key; me is the process of the line.
 use Rattle.cap_summary.specs.{stays, declared.effect.Effect.Effect, declared.effect.Row.Row, declared.value.Value.Value}
 use Rattle.cap_summary.specs.{option_map_or, effect_touch, is_child, Keys.mode_cell, Sorted.found, declared.key.Key.Key}
-use Rattle.cap_summary.specs.{Unknown, LineEffect, applied, follows, started, effect_turn, Keys.Cells, Values.read}
-use Rattle.cap_summary.specs.{Cell, Closed, exec, Turn, turns, touched}
-use Rattle.cap_summary.specs.Effects.{row_cell, cell_in, changed, row_leaves, leaves_in, LineLeaves}
-use Rattle.std.specs.Prelude.{◌≡◌, ◌==◌, ◌&&◌, ◌||◌, ◌⊎◌, if◌then◌else◌, ℕ, not, Bool, true, false, List, nat_le}
+use Rattle.cap_summary.specs.{LineEffect, follows, started, effect_turn, Keys.Cells, Values.read}
+use Rattle.cap_summary.specs.{Cell, Closed, Turn, turns, touched}
+use Rattle.cap_summary.specs.Effects.{row_cell, cell_in, changed, row_leaves, leaves_in}
+use Rattle.std.specs.Prelude.{◌≡◌, ◌==◌, ◌&&◌, ◌||◌, ◌⊎◌, if◌then◌else◌, ℕ, Bool, true, false, List}
 
 -- the cell of a mode after a turn, of what the cells were before
 abbrev pub turned_cell : Turn → Cells → ℕ → Cell
@@ -22,9 +22,8 @@ abbrev pub IsThenLine : Effect → LineEffect → ℕ → Effect → Type 0
 IsThenLine first line me new = (cells : Cells) (p : ℕ) (k : Key)
     → changed new cells p k ≡ line_after line me (changed first cells) p k
 
--- a process that a line touches: its own, and the child that it makes
+-- a process whose row a line makes anew: its own, or the child that it makes, or both
 abbrev pub is_touched : LineEffect → ℕ → ℕ → Bool
-is_touched LineEffect.Keep me p = false
 is_touched (LineEffect.Fork child) me p = p == child
 is_touched (LineEffect.ForkAs child f) me p = p == me || p == child
 is_touched _ me p = p == me
@@ -41,8 +40,7 @@ abbrev pub is_cell : ℕ → ℕ → ℕ → Key → Bool
 is_cell q f p Key.Mode = false
 is_cell q f p (Key.Fd g) = p == q && g == f
 
--- each process that a line of process me touches has the cells that this row gives me, and each other one those that it
--- had
+-- each of these has the cells that this row gives me, the line's process, and each other one those that it had
 abbrev pub IsPut : LineEffect → ℕ → Row → List (ℕ × Row) → List (ℕ × Row) → Type 0
 IsPut line me row old new = (cells : Cells) (p : ℕ) (k : Key) → cell_in cells (found new p) p k
     ≡ (if is_touched line me p then row_cell cells me row k else cell_in cells (found old p) p k)
@@ -52,14 +50,6 @@ abbrev pub LeavesPut : LineEffect → ℕ → Row → List (ℕ × Row) → List
 LeavesPut line me row old new = (p : ℕ) (k : Key) → leaves_in (found new p) k ≡ true
     → ((is_touched line me p ≡ false) × (leaves_in (found old p) k ≡ true))
     ⊎ ((p ≡ me) × (is_child line me ≡ false) × (row_leaves row k ≡ true))
-
--- a row of a process that has the cells of the line's process after it
-abbrev pub IsRowOf : LineEffect → ℕ → Row → Type 0
-IsRowOf line me row = (cells : Cells) (k : Key) → row_cell cells me row k ≡ line_after line me cells me k
-
--- what it leaves, the line leaves, if the process isn't its own child
-abbrev pub LeavesOwn : LineEffect → ℕ → Row → Type 0
-LeavesOwn line me row = is_child line me ≡ false → (k : Key) → row_leaves row k ≡ true → LineLeaves line me me k
 
 -- the cells that a process holds once it has started with these descriptors
 abbrev pub IsStarted : List ℕ → List (ℕ × Value) → Type 0

@@ -1,7 +1,7 @@
 -- Which processes and which descriptors an effect and a precondition name.
 use Rattle.cap_summary.specs.{declared.precondition.Precondition.Precondition, declared.up_to_three.UpToThree.UpToThree}
 use Rattle.cap_summary.specs.{Asks.AreWithin, declared.base.DefaultCells.DefaultCells, declared.effect.Effect.Effect}
-use Rattle.cap_summary.specs.{option_map_or, declared.ask.Ask.Ask, declared.effect.Row.Row, declared.value.Value.Value}
+use Rattle.cap_summary.specs.{option_map_or, declared.effect.Row.Row, declared.value.Value.Value}
 use Rattle.cap_summary.specs.{Check, Requirement, Asks.asks_of, Sorted.found, Values.reads_within, declared.key.Key.Key}
 use Rattle.cap_summary.specs.{list_any, Item, Answer, ResultKind, ChildAndFd, kind_of, LineEffect, args_name, names_pid}
 use Rattle.cap_summary.specs.{Fd, Same, FdPair, Entry, Step, Checks, listed, fds_of}

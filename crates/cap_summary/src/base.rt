@@ -1,7 +1,7 @@
 //! The cells of a process that aren't listed.
 
 ghost use Rattle.std.specs.Prelude.{◌≡◌, ◌||◌, ℕ, true, false, None, IfOk};
-ghost use Rattle.cap_summary.specs.{Cell, Keys.Cells, Effects.is_own, Names.Names, Names.has_cell, Names.others_within};
+ghost use Rattle.cap_summary.specs.{Keys.Cells, Effects.is_own, Names.Names, Names.has_cell, Names.others_within};
 ghost use Rattle.cap_summary.specs.{Values.read, Values.reads_within};
 ghost use Rattle.cap_summary.specs.Effects.{passed, is_from, others_cell, base_cell};
 
@@ -55,16 +55,6 @@ impl Passing {
             Passing::Exec => value.view().then(alloc, &SharedOp::new(alloc, Op::exec())?),
         }
     }
-
-    /// One after another.
-    fn then(self, later: Passing) -> Passing
-        ensures { (c : Cell) → passed result c ≡ passed later (passed self c) }
-    {
-        match self {
-            Passing::Same => later,
-            Passing::Exec => Passing::Exec,
-        }
-    }
 }
 
 impl DefaultCells {
@@ -78,7 +68,7 @@ impl DefaultCells {
     {
         match self {
             DefaultCells::Own => DefaultCells::Of(pid, passing),
-            DefaultCells::Of(source, first) => DefaultCells::Of(*source, first.then(passing)),
+            DefaultCells::Of(source, Passing::Same) => DefaultCells::Of(*source, passing),
             others => *others,
         }
     }

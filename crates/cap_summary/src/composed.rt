@@ -4,7 +4,7 @@ ghost use Rattle.std.specs.Prelude.{◌≡◌, ℕ, false, true, is_none, Some, 
 ghost use Rattle.cap_summary.specs.{option_map_or, Closed, Keys.Cells, Sorted.found, Sorted.Rises, Values.read};
 ghost use Rattle.cap_summary.specs.{declared.key.Key.Key};
 ghost use Rattle.cap_summary.specs.Composing.{IsHandedSo, IsComposedSo, IsJoinedEffect, IsOldAt, IsReplaced};
-ghost use Rattle.cap_summary.specs.Effects.{passed, is_from, base_cell, changed, IsRowAfter};
+ghost use Rattle.cap_summary.specs.Effects.{passed, is_from, base_cell, row_cell, changed};
 ghost use Rattle.cap_summary.specs.{Effects.base_leaves, Effects.row_leaves, Effects.leaves};
 ghost use Rattle.cap_summary.specs.Names.{Names, others_within, mode_within, ListWithin, RowWithin, IsRowWithin};
 ghost use Rattle.cap_summary.specs.Names.{ReadWithin};
@@ -112,7 +112,7 @@ impl Combine for Handing<'_> {
     }
 
     ghost neither = { λ s f. record {
-      cells = λ cells. refl;
+      cells = λ cells rest. refl;
       unlisted = refl;
       names = λ names of within read left right. tt;
     } };
@@ -225,7 +225,8 @@ impl Effect {
 
     /// A row of a process of a later segment, by the cells before this one.
     pub(crate) fn row_after(&self, alloc: Global, pid: Pid, row: &Row) -> Result<Row, NoMemory>
-        ensures cells { IfOk result (λ new. IsRowAfter self.now pid row.now new) }
+        ensures cells { IfOk result (λ new. (cells : Cells) (k : Key)
+            → row_cell cells pid new k ≡ row_cell (changed self.now cells) pid row.now k) }
         ensures leaves { IfOk result (λ new. (k : Key) → row_leaves new k ≡ true
             → (leaves self.now pid k ≡ true) × (row_leaves row.now k ≡ true)) }
         ensures names { IfOk result (λ new. (names of : Names) → ReadWithin names of self.now

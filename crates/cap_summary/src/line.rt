@@ -2,10 +2,10 @@
 
 ghost use Rattle.std.specs.Prelude.{◌≡◌, ◌==◌, if◌then◌else◌, ℕ, true, false, Some, None, unwrap_or, IfOk, OnOk};
 ghost use Rattle.std.specs.Prelude.{All};
-ghost use Rattle.cap_summary.specs.{fds_spelled, Keys.Cells, Keys.mode_cell, Sorted.found};
-ghost use Rattle.cap_summary.specs.{Values.read, Values.source, declared.key.Key.Key};
-ghost use Rattle.cap_summary.specs.Effects.{own_row, changed, leaves, LeavesThenLine};
-ghost use Rattle.cap_summary.specs.Lines.{IsThenLine, IsPut, LeavesPut, IsRowOf, LeavesOwn, IsStarted, sets_cells, is_cell};
+ghost use Rattle.cap_summary.specs.{fds_spelled, is_child, Keys.Cells, Sorted.found, Effects.row_leaves};
+ghost use Rattle.cap_summary.specs.{Values.read, declared.key.Key.Key, Lines.line_after, Effects.row_cell};
+ghost use Rattle.cap_summary.specs.Effects.{own_row, changed, leaves, LineLeaves, LeavesThenLine};
+ghost use Rattle.cap_summary.specs.Lines.{IsThenLine, IsPut, LeavesPut, IsStarted, sets_cells, is_cell};
 ghost use Rattle.cap_summary.specs.Names.{Names, IsListedWithin, ListWithin, RowWithin};
 ghost use Rattle.cap_summary.specs.Names.{RowsWithin, EffectWithin, LineWithin};
 
@@ -34,32 +34,25 @@ fn started_cells(alloc: Global, spelled: &[u8]) -> Result<Map<Value>, NoMemory>
     Ok(listed)
 }
 
-/// The cell of a mode that a line turns to.
-fn turned(mode: Mode) -> Value
-    ensures reads { (cells : Cells) → read cells result ≡ mode_cell mode }
-    ensures source { source result ≡ None }
-{
-    Value::of(cell_of_mode(mode))
-}
-
 impl Row {
     /// What a line of process `me`, which sets no cell to a value of its own, makes of the process.
-    #[tactic(auto, using(crate::proofs::LineListed::started_row))]
     fn of_line(alloc: Global, me: Pid, line: &LineEffect<'_>) -> Result<Row, NoMemory>
         requires { sets_cells line.now ≡ false }
-        ensures cells { IfOk result (λ row. IsRowOf line.now me row) }
-        ensures leaves { IfOk result (λ row. LeavesOwn line.now me row) }
+        ensures cells { IfOk result (λ row. (cells : Cells) (k : Key)
+            → row_cell cells me row k ≡ line_after line.now me cells me k) }
+        ensures leaves { IfOk result (λ row. is_child line.now me ≡ false → (k : Key) → row_leaves row k ≡ true
+            → LineLeaves line.now me me k) }
         ensures names { IfOk result (λ row. (names : Names) → LineWithin names me line.now → RowWithin names row) }
     {
         match line {
             LineEffect::Start(fds) => Ok(Row {
                 base: Base::of(DefaultCells::Closed),
-                mode: Some(turned(Mode::Outside)),
+                mode: Some(Value::of(cell_of_mode(Mode::Outside))),
                 cells: started_cells(alloc, fds)?,
             }),
             LineEffect::Exit => Ok(Row {
                 base: Base::of(DefaultCells::Unknown),
-                mode: Some(turned(Mode::Unsure)),
+                mode: Some(Value::of(cell_of_mode(Mode::Unsure))),
                 ..Row::own(alloc)
             }),
             LineEffect::Forget => Ok(Row {
@@ -78,7 +71,7 @@ impl Row {
                 ..Row::own(alloc)
             }),
             LineEffect::Enter => Ok(Row {
-                mode: Some(turned(Mode::Inside)),
+                mode: Some(Value::of(cell_of_mode(Mode::Inside))),
                 ..Row::own(alloc)
             }),
             LineEffect::ForkAs(_, fd) => {
@@ -117,7 +110,6 @@ fn put_rows(
         → RowsWithin names rows.old → RowsWithin names rows.new) }
 {
     match line {
-        LineEffect::Keep => Ok(()),
         LineEffect::Fork(child) => rows.set(*child, SharedRow::new(alloc, row.forked(me)?)?),
         LineEffect::ForkAs(child, _) => {
             let forked = row.forked(me)?;

@@ -125,7 +125,7 @@ impl Effect {
         ensures { result ≡ true → self.now.rows ≡ other.now.rows }
     {
         let sized = self.size() == other.size();
-        sized && self.rows.entries() == other.rows.entries()
+        sized && self.rows == other.rows
     }
 
     /// How many rows there are, and cells that they list, as far as they can be counted.

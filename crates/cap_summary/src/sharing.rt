@@ -2,7 +2,7 @@
 
 ghost use Rattle.std.specs.Prelude.{◌≡◌, true};
 ghost use Rattle.cap_summary.specs.{Values.reads_within};
-ghost use Rattle.cap_summary.specs.Names.{only, has_cell, others_within, RowWithin};
+ghost use Rattle.cap_summary.specs.Names.{only, has_cell, RowWithin};
 
 use crate::{DefaultCells, Row, Value};
 use cap_trace::Pid;
@@ -19,18 +19,6 @@ impl Value {
     }
 }
 
-impl DefaultCells {
-    /// Whether they are of no other process than this one.
-    fn reads_only(&self, pid: Pid) -> bool
-        ensures { result ≡ others_within (only pid) self.now }
-    {
-        match self {
-            DefaultCells::Of(source, _) => *source == pid,
-            _ => true,
-        }
-    }
-}
-
 impl Row {
     /// Whether nothing in it reads another process than this one.
     pub(crate) fn reads_only(&self, pid: Pid) -> bool
@@ -40,8 +28,12 @@ impl Row {
             Some(value) => value.reads_only(pid),
             None => true,
         };
+        let others_read_only = match &self.base.others {
+            DefaultCells::Of(source, _) => *source == pid,
+            _ => true,
+        };
         mode_reads_only
-            && self.base.others.reads_only(pid)
+            && others_read_only
             && self
                 .cells
                 .entries()

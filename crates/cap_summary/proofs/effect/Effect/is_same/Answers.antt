@@ -2,5 +2,4 @@ use Rattle.cap_summary.proofs.{sym, ◌∙◌, Equal.same_rows}
 use Rattle.cap_summary.proofs.effect.Effect.is_same.Goals as goal
 
 pub returns-then-sized : goal.returns-then-sized
-returns-then-sized c = λ same. same_rows c.args.self.now.rows c.args.other.now.rows
-    (rw (c.entries-then-sized.ensures.all, c.entries.ensures.all) at (sym c.eq.ensures ∙ same))
+returns-then-sized c = λ same. same_rows c.args.self.now.rows c.args.other.now.rows (sym c.eq.ensures ∙ same)

@@ -4,8 +4,8 @@ use Rattle.cap_summary.specs.{Names.only, Names.has_cell, Values.reads_within, d
 use Rattle.cap_summary.proofs.{rules, sym, ◌∙◌, OwnCells.list_only}
 use Rattle.cap_summary.proofs.effect.Row.reads_only.Goals as goal
 
-pub returns-then-reads_only : goal.returns-then-reads_only
-returns-then-reads_only c = λ is. record {
+pub returns-then-others_read_only : goal.returns-then-others_read_only
+returns-then-others_read_only c = λ is. record {
   cells = list_only c.args.pid c.args.self.now.cells (sym (all_from_yields_List
       (λ (entry : ℕ × Value). reads_within (has_cell (only c.args.pid)) entry.1) _ _ _ c.all.ensures.ran
       (YieldsList-from_slice c.args.self.now.cells (rw c.entries.ensures.all at c.iter.ensures.rest))
