@@ -1,11 +1,10 @@
 -- What a look-up finds in a list whose keys rise.
 use Rattle.cap_summary.specs.{IsNonDecreasingBy, nat_cmp, AllZip}
 use Rattle.cap_summary.specs.Sorted.{IsAt, IsGap, found, RisesFrom, Rises, KeysRise}
-use Rattle.cap_summary.proofs.{sym, ap, ◌∙◌, arith, ranked, nat_tests}
+use Rattle.cap_summary.proofs.{sym, ap, arith, ranked, nat_tests}
 use Rattle.std.specs.{List.Sorted.IsSearchInRange, List.Sorted.IsBinarySearchResult, Ordering.ordering_index}
-use Rattle.std.specs.Prelude.{Result, zero, List, length, get_or, None, Some, IfOk, IfErr, option_map, slice_get, refl}
+use Rattle.std.specs.Prelude.{Result, zero, List, length, get_or, None, Some, IfOk, IfErr, refl}
 use Rattle.std.specs.Prelude.{◌≢◌, Ok, Err, ◌≡◌, ◌+◌, ◌<◌, ◌≤◌, ◌∷◌, ℕ, suc, []}
-use Rattle.std.proofs.{lemmas.Option.slice_get-get_or}
 
 -- no key is below the bound
 pub rises_at : {V : Type 0} (b : ℕ) (l : List (ℕ × V)) → RisesFrom b l → (i : ℕ) (d : ℕ × V) → i < length l
@@ -50,21 +49,15 @@ pub is_at_tail : {V : Type 0} (x : ℕ × V) (l : List (ℕ × V)) (key at : ℕ
 is_at_tail x l key at is_at = record { in_range = omega (arith, is_at.in_range); has_key = is_at.has_key }
 
 -- the value at the place of a key is found
-pub found_is_at : {V : Type 0} (b : ℕ) (l : List (ℕ × V)) (key at : ℕ) → RisesFrom b l
-    → IsAt l key at → found l key ≡ option_map (λ entry. entry.1) (slice_get l at)
-found_is_at b [] key at rises is_at = absurd (omega (arith, is_at.in_range))
-found_is_at b ((k, v) ∷ rest) key zero rises is_at = grind (arith, nat_tests, is_at.has_key (k, v))
-found_is_at b ((k, v) ∷ rest) key (suc at) rises is_at =
-    let above = rises_at (k + 1) rest rises.1 at (k, v) (omega (arith, is_at.in_range)) in
-    let same = is_at.has_key (k, v) in
-    let later = found_is_at (k + 1) rest key at rises.1 (is_at_tail (k, v) rest key at is_at) in
-    grind (arith, nat_tests, above, same, later)
-
--- the value at the place of a key
 pub found_at : {V : Type 0} (b : ℕ) (l : List (ℕ × V)) (key at : ℕ) (d : ℕ × V) → RisesFrom b l → IsAt l key at
     → found l key ≡ Some (get_or l at d).1
-found_at b l key at d rises is_at = found_is_at b l key at rises is_at
-    ∙ ap (option_map (λ entry. entry.1)) (slice_get-get_or l at d is_at.in_range)
+found_at b [] key at d rises is_at = absurd (omega (arith, is_at.in_range))
+found_at b ((k, v) ∷ rest) key zero d rises is_at = grind (arith, nat_tests, is_at.has_key (k, v))
+found_at b ((k, v) ∷ rest) key (suc at) d rises is_at =
+    let above = rises_at (k + 1) rest rises.1 at (k, v) (omega (arith, is_at.in_range)) in
+    let same = is_at.has_key (k, v) in
+    let later = found_at (k + 1) rest key at d rises.1 (is_at_tail (k, v) rest key at is_at) in
+    grind (arith, nat_tests, above, same, later)
 
 -- a key that is at no place isn't found
 found_absent : {V : Type 0} (l : List (ℕ × V)) (key : ℕ) → ((i : ℕ) (d : ℕ × V) → i < length l → (get_or l i d).0 ≢ key)
@@ -81,14 +74,14 @@ keys_in_order l rises i j d le in_range =
     grind (arith, keys_rise 0 l rises i j d, λ (same : i ≡ j). ap (λ n. (get_or l n d).0) same)
 
 -- comparisons with a key rise along the list, as a binary search asks
-pub comparisons_rise : {V : Type 0} (l : List (ℕ × V)) (key : ℕ) → Rises l
+comparisons_rise : {V : Type 0} (l : List (ℕ × V)) (key : ℕ) → Rises l
     → IsNonDecreasingBy (λ entry. ordering_index (nat_cmp entry.0 key)) l
 comparisons_rise l key rises i j d le in_range =
     let keys : (get_or l i d).0 ≤ (get_or l j d).0 = keys_in_order l rises i j d le in_range in
     grind (arith, nat_tests)
 
 -- a key that has a gap isn't found
-pub found_gap : {V : Type 0} (l : List (ℕ × V)) (key at : ℕ) → IsGap l key at → found l key ≡ None
+found_gap : {V : Type 0} (l : List (ℕ × V)) (key at : ℕ) → IsGap l key at → found l key ≡ None
 found_gap l key at gap = found_absent l key (λ i d lt same. grind (arith, gap.smaller i d, gap.greater i d))
 
 -- a binary search ends at the key, or at the gap for it
@@ -96,12 +89,13 @@ pub searched : {V : Type 0} (l : List (ℕ × V)) → Rises l → (key : ℕ) (r
     → IsBinarySearchResult (λ entry. nat_cmp entry.0 key) l r → record {
       at : IfOk r (IsAt l key);
       gap : IfErr r (IsGap l key);
-      value : IfOk r (λ at. found l key ≡ option_map (λ entry. entry.1) (slice_get l at));
       absent : IfErr r (λ _. found l key ≡ None);
     }
-searched l rises key (Ok at) in_range equal =
-    let is_at : IsAt l key at = record { in_range = in_range; has_key = λ d. ranked _ key _ (sym (equal d)) } in
-    record { at = is_at; gap = tt; value = found_is_at 0 l key at rises is_at; absent = tt }
+searched l rises key (Ok at) in_range equal = record {
+  at = record { in_range = in_range; has_key = λ d. ranked _ key _ (sym (equal d)) };
+  gap = tt;
+  absent = tt;
+}
 searched l rises key (Err at) in_range parted =
     let sides = parted (comparisons_rise l key rises) in
     let gap : IsGap l key at = record {
@@ -109,7 +103,7 @@ searched l rises key (Err at) in_range parted =
       smaller = λ i d before. ranked _ key _ (sym (sides.0 i d (omega arith) before));
       greater = λ i d after lt. ranked _ key _ (sym (sides.1 i d after lt));
     } in
-    record { at = tt; gap = gap; value = tt; absent = found_gap l key at gap }
+    record { at = tt; gap = gap; absent = found_gap l key at gap }
 
 -- a key below the first isn't found
 pub found_below_first : {V : Type 0} (key : ℕ) (first : ℕ × V) (rest : List (ℕ × V)) → RisesFrom key (first ∷ rest)

@@ -71,7 +71,3 @@ NodesCompose a b whole = 0 < length a.steps → 0 < length b.steps
 -- something holds of what is known of two nodes, where it is kept of both
 abbrev pub IfKept : (Known → Known → Type 0) → NodeView → NodeView → Type 0
 IfKept R a b = IfSome a.known (λ old. IfSome b.known (λ new. R old new))
-
--- how far what is known of two nodes is the same, where it is kept of both
-abbrev pub NodesAlike : Similarity → NodeView → NodeView → Type 0
-NodesAlike similarity a b = IfKept (AreAlike similarity) a b

@@ -1,6 +1,6 @@
 -- What a cell is after a segment, read under the cells before it.
-use Rattle.cap_summary.specs.{option_map_or, declared.key.Key.Key, declared.view.Seen.Seen, declared.value.Value.Value}
-use Rattle.cap_summary.specs.{ℕ, Bool, true, Option, Some, None, Cell, Unknown, Closed, Held, applied, exec, Keys.Cells}
+use Rattle.cap_summary.specs.{declared.key.Key.Key, declared.view.Seen.Seen, declared.value.Value.Value}
+use Rattle.cap_summary.specs.{ℕ, Bool, true, Cell, Unknown, Closed, Held, applied, exec, Keys.Cells}
 use Rattle.cap_summary.specs.declared.view.Seen.TheVariants.{Is, Same, Executed, Made}
 
 -- the cell that a value stands for: a constant, a cell before the segment, or what an op makes of one
@@ -11,17 +11,11 @@ read cells (Value.Held rights flag) = Held rights flag
 read cells (Value.Same p k) = cells p k
 read cells (Value.Of p k op) = applied op (cells p k)
 
--- the cell that a value reads, if it reads one
-abbrev pub source : Value → Option (ℕ × Key)
-source Value.Unknown = None
-source Value.Closed = None
-source (Value.Held rights flag) = None
-source (Value.Same p k) = Some (p, k)
-source (Value.Of p k op) = Some (p, k)
-
--- the cell that a value reads is among these
+-- the cell that a value reads, if it reads one, is among these
 abbrev pub reads_within : (ℕ → Key → Bool) → Value → Bool
-reads_within names v = option_map_or (λ (of : ℕ × Key). names of.0 of.1) (source v) true
+reads_within names (Value.Same p k) = names p k
+reads_within names (Value.Of p k op) = names p k
+reads_within names _ = true
 
 -- ---- what is seen of a cell after a segment
 

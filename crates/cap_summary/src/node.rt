@@ -7,7 +7,7 @@ ghost use Rattle.cap_summary.specs.{Preconditions.IsSettled, Content.content_ste
 ghost use Rattle.cap_summary.specs.{Content.KeepsParts, Positions.found_in, Positions.AllOrMany, Positions.WereJudged};
 ghost use Rattle.cap_summary.specs.Kept.{NameOrRefuseMany, IsKept, IsWithin, IsLarge, ListsMany};
 ghost use Rattle.cap_summary.specs.LastSteps.{IsNoLess, AreNoted, AgreeAfter, AreJudged};
-ghost use Rattle.cap_summary.specs.Composing.{NodeView, NodesCompose, NodesAlike};
+ghost use Rattle.cap_summary.specs.Composing.{NodeView, NodesCompose, IfKept, AreAlike};
 
 use crate::judging::{Asked, judge_in_order, judge_run};
 use crate::last_steps::LastSteps;
@@ -216,11 +216,11 @@ impl Node {
         requires few { length left.now.value.steps + length right.now.value.steps ≤ 2 ^ 30 }
         requires old { NodesCompose (part_at side was.now left.now.value) (part_at side right.now.value was.now)
             old.now }
-        requires like { NodesAlike similarity was.now (part_at side left.now.value right.now.value) }
+        requires like { IfKept (AreAlike similarity) was.now (part_at side left.now.value right.now.value) }
         ensures steps { IfOk result
             (λ new. new.0.value.steps ≡ left.now.value.steps ++ right.now.value.steps) }
         ensures composed { IfOk result (λ new. NodesCompose left.now.value right.now.value new.0.value) }
-        ensures alike { IfOk result (λ new. NodesAlike new.1 old.now new.0.value) }
+        ensures alike { IfOk result (λ new. IfKept (AreAlike new.1) old.now new.0.value) }
     {
         let (Some(whole), Some(part), Some((first, second))) = (
             old.known(),

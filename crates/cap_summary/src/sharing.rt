@@ -12,9 +12,10 @@ impl Value {
     fn reads_only(&self, pid: Pid) -> bool
         ensures { result ≡ reads_within (has_cell (only pid)) self.now }
     {
-        match self.source() {
-            None => true,
-            Some((source, _)) => source == pid,
+        match self {
+            Value::Same(source, _) => *source == pid,
+            Value::Of(source, _, _) => *source == pid,
+            _ => true,
         }
     }
 }

@@ -1,7 +1,7 @@
 //! What a cell is after a segment, by the cells before it.
 
-ghost use Rattle.std.specs.Prelude.{◌≡◌, None};
-ghost use Rattle.cap_summary.specs.{Keys.Cells, Values.read, Values.source};
+ghost use Rattle.std.specs.Prelude.{◌≡◌, ℕ, Bool, true};
+ghost use Rattle.cap_summary.specs.{Keys.Cells, Values.read, Values.reads_within, declared.key.Key.Key};
 
 use crate::{Key, SharedOp};
 use cap_machine::{Cell, OnExec};
@@ -43,23 +43,12 @@ impl Value {
     /// This cell, whatever the state before.
     pub fn of(cell: Cell) -> Value
         ensures reads { (cells : Cells) → read cells result ≡ cell }
-        ensures source { source result ≡ None }
+        ensures names { (names : ℕ → Key → Bool) → reads_within names result ≡ true }
     {
         match cell {
             Cell::Unknown => Value::Unknown,
             Cell::Closed => Value::Closed,
             Cell::Held(rights, flag) => Value::Held(rights, flag),
-        }
-    }
-
-    /// The cell that it reads, if it reads one.
-    pub fn source(&self) -> Option<(Pid, Key)>
-        ensures { result ≡ source self.now }
-    {
-        match self {
-            Value::Unknown | Value::Closed | Value::Held(..) => None,
-            Value::Same(pid, key) => Some((*pid, *key)),
-            Value::Of(pid, key, _) => Some((*pid, *key)),
         }
     }
 }

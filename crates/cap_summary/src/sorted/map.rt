@@ -1,7 +1,7 @@
 //! Maps that are changed in place.
 ghost use Rattle.std.specs.Prelude.{OnErr};
-ghost use Rattle.std.specs.Prelude.{◌≡◌, ◌==◌, if◌then◌else◌, ℕ, false, [], Some, None, OnOk, slice_get};
-ghost use Rattle.std.specs.Prelude.{option_map, IfOk, IfErr, option_copied};
+ghost use Rattle.std.specs.Prelude.{◌≡◌, ◌==◌, if◌then◌else◌, ℕ, false, [], Some, None, OnOk};
+ghost use Rattle.std.specs.Prelude.{IfOk, IfErr, option_copied};
 ghost use Rattle.cap_summary.specs.Sorted.{IsAt, IsGap, found, Rises};
 
 use cap_tree::NoMemory;
@@ -58,8 +58,6 @@ fn place_of<V>(entries: &[(u32, V)], key: u32) -> Result<usize, usize>
     requires { Rises entries.now }
     ensures at { IfOk result (IsAt entries.now key) }
     ensures gap { IfErr result (IsGap entries.now key) }
-    ensures value { IfOk result
-        (λ at. found entries.now key ≡ option_map (λ entry. entry.1) (slice_get entries.now at)) }
     ensures absent { IfErr result (λ _. found entries.now key ≡ None) }
 {
     entries.binary_search_by_key(&key, |entry| entry.0)
@@ -75,6 +73,7 @@ impl<V> Map<V> {
     }
 
     /// The value at a key, if there is one. Halves the map at each step, and allocates nothing.
+    #[tactic(auto, using(crate::proofs::SortedFound::found_at))]
     pub fn get(&self, key: u32) -> Option<&V>
         ensures { option_copied result ≡ found self.now key }
     {

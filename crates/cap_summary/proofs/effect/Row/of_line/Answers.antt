@@ -1,4 +1,4 @@
-use Rattle.cap_summary.specs.{refl}
+use Rattle.cap_summary.specs.{refl, Names.has_cell}
 use Rattle.cap_summary.proofs.{◌∙◌, LineListed.started_row}
 use Rattle.cap_summary.proofs.effect.Row.of_line.Goals as goal
 
@@ -11,5 +11,5 @@ pub returns-in_ok-started_cells-in-Start-clause-names : goal.returns-in_ok-start
 returns-in_ok-started_cells-in-Start-clause-names c = λ names within. record {
   cells = c.in_ok-started_cells-in-Start.ensures.names names (rw c.in-Start.is at within.fds);
   others = rw c.of.ensures.others refl;
-  mode = rw c.of-in-Start.ensures.source refl;
+  mode = c.of-in-Start.ensures.names (has_cell names);
 }
