@@ -1,11 +1,11 @@
 -- The cells after a line, by the rows of the processes that it touches.
 use Rattle.cap_summary.specs.{declared.effect.Effect.Effect, declared.effect.Row.Row, declared.key.Key.Key, Lines.IsPut}
-use Rattle.cap_summary.specs.{Lines.turned_cell, Lines.line_after, Lines.IsThenLine, Lines.is_touched, is_child}
+use Rattle.cap_summary.specs.{Lines.turned_cell, Lines.line_after, Lines.is_touched, is_child, Sorted.found}
 use Rattle.cap_summary.specs.{Unknown, Closed, LineEffect, applied, follows, Keys.Cells, Lines.LeavesPut}
 use Rattle.cap_summary.specs.{Set, Clear, Unsure, Cell, Held, same, kept, given, taken, stays, touched}
-use Rattle.cap_summary.specs.Effects.{row_cell, changed, row_leaves, leaves, LineLeaves, LeavesThenLine}
+use Rattle.cap_summary.specs.Effects.{row_cell, changed, row_leaves, leaves, leaves_in, LineLeaves, cell_in}
 use Rattle.cap_summary.proofs.{sym, ap, ◌∙◌, inl, inr, subst, eqb-true, eq-eqb, or-false, Bools.or_right}
-use Rattle.std.specs.Prelude.{◌≡◌, ◌==◌, ◌||◌, ℕ, Bool, true, false, cond, refl}
+use Rattle.std.specs.Prelude.{◌≡◌, ◌==◌, ◌||◌, ℕ, Bool, true, false, cond, refl, List}
 
 -- ---- a process that isn't touched keeps its cells
 untouched_left : (line : LineEffect) (me p : ℕ) → is_touched line me p ≡ false → (k : Key) → LineLeaves line me p k
@@ -74,10 +74,11 @@ touched_so (LineEffect.ForkAs child g) me p cells (Key.Fd f) is =
     ∙ sym (as_cell me cells child me f (f == g) (me == child) (own_too me cells child)))
 touched_so line me p cells k is = ap (λ q. line_after line me cells q k) (eqb-true p me is)
 
-module _ (first new : Effect) (line : LineEffect) (me : ℕ) (own row : Row) where
+module _ (first : Effect) (new : List (ℕ × Row)) (line : LineEffect) (me : ℕ) (own row : Row) where
   pub then_line : ((cells : Cells) (k : Key) → row_cell cells me own k ≡ line_after line me cells me k)
       → ((cells : Cells) (k : Key) → row_cell cells me row k ≡ row_cell (changed first cells) me own k)
-      → IsPut line me row first.rows new.rows → IsThenLine first line me new
+      → IsPut line me row first.rows new → (cells : Cells) (p : ℕ) (k : Key)
+      → cell_in cells (found new p) p k ≡ line_after line me (changed first cells) p k
   then_line of_line after put cells p k = put cells p k ∙ by (is_touched line me p) refl
     where
       by : (b : Bool) → is_touched line me p ≡ b
@@ -88,7 +89,8 @@ module _ (first new : Effect) (line : LineEffect) (me : ℕ) (own row : Row) whe
 
   pub then_leaves : (is_child line me ≡ false → (k : Key) → row_leaves own k ≡ true → LineLeaves line me me k)
       → ((k : Key) → row_leaves row k ≡ true → (leaves first me k ≡ true) × (row_leaves own k ≡ true))
-      → LeavesPut line me row first.rows new.rows → LeavesThenLine first line me new
+      → LeavesPut line me row first.rows new → (p : ℕ) (k : Key) → leaves_in (found new p) k ≡ true
+      → (leaves first p k ≡ true) × LineLeaves line me p k
   then_leaves own_left after put p k left = elim (put p k left) [
     | inl other ↦ (other.1, untouched_left line me p other.0 k)
     | inr here ↦

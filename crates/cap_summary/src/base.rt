@@ -1,15 +1,10 @@
 //! The cells of a process that aren't listed.
 
-ghost use Rattle.std.specs.Prelude.{◌≡◌, ◌||◌, ℕ, true, false, None, IfOk};
-ghost use Rattle.cap_summary.specs.{Keys.Cells, Effects.is_own, Names.Names, Names.has_cell, Names.others_within};
-ghost use Rattle.cap_summary.specs.{Values.read, Values.reads_within};
-ghost use Rattle.cap_summary.specs.Effects.{passed, is_from, others_cell, base_cell};
+ghost use Rattle.std.specs.Prelude.{◌≡◌, ◌||◌, ℕ, true, false, None};
+ghost use Rattle.cap_summary.specs.{Keys.Cells, Names.Names, Names.others_within};
+ghost use Rattle.cap_summary.specs.Effects.{is_own, passed, is_from, others_cell, base_cell};
 
-use crate::{SharedOp, Value};
-use cap_machine::Op;
 use cap_trace::{Fd, Pid};
-use cap_tree::NoMemory;
-use std::alloc::Global;
 
 /// How a whole table of cells is handed on.
 #[derive(Clone, Copy, Debug, PartialEq, Eq)]
@@ -41,20 +36,6 @@ pub struct Base {
     pub others: DefaultCells,
     /// From here up each is closed (closefrom(2)).
     pub closed_from: Option<Fd>,
-}
-
-impl Passing {
-    /// A value where it is handed on.
-    pub(crate) fn pass(self, alloc: Global, value: &Value) -> Result<Value, NoMemory>
-        ensures reads { IfOk result (λ v. (cells : Cells) → read cells v ≡ passed self (read cells value.now)) }
-        ensures names { IfOk result (λ v. (names : Names) → reads_within (has_cell names) value.now ≡ true
-            → reads_within (has_cell names) v ≡ true) }
-    {
-        match self {
-            Passing::Same => Ok(value.clone()?),
-            Passing::Exec => value.view().then(alloc, &SharedOp::new(alloc, Op::exec())?),
-        }
-    }
 }
 
 impl DefaultCells {

@@ -12,7 +12,8 @@ ghost use Rattle.cap_summary.specs.Names.{ReadWithin};
 use crate::base::lower_of;
 use crate::reading::counted;
 use crate::sorted::{Combine, merge};
-use crate::{Base, DefaultCells, Effect, Passing, Row, SharedRow, Value};
+use crate::{Base, DefaultCells, Effect, Passing, Row, SharedOp, SharedRow, Value};
+use cap_machine::Op;
 use cap_trace::Pid;
 use cap_tree::{NoMemory, Side};
 use std::alloc::Global;
@@ -101,12 +102,14 @@ impl Combine for Handing<'_> {
     ) -> Result<Option<Value>, NoMemory> {
         match (listed, handed) {
             (Some(listed), _) => Ok(Some(self.first.value_after(alloc, listed)?)),
-            (None, Some(handed)) => {
-                if self.base.closes(fd) {
-                    return Ok(None);
+            (None, Some(_)) if self.base.closes(fd) => Ok(None),
+            (None, Some(handed)) => match self.passing {
+                Passing::Same => Ok(Some(handed.clone()?)),
+                Passing::Exec => {
+                    let exec = SharedOp::new(alloc, Op::exec())?;
+                    Ok(Some(handed.view().then(alloc, &exec)?))
                 }
-                Ok(Some(self.passing.pass(alloc, handed)?))
-            }
+            },
             (None, None) => Ok(None),
         }
     }

@@ -19,7 +19,6 @@ mod node;
 mod precondition;
 mod reading;
 mod shared;
-mod sharing;
 mod sorted;
 mod summary;
 mod up_to_three;

@@ -1,10 +1,9 @@
-//! What a row and an effect say of a cell, and how much they list.
+//! What a row and an effect say of a cell, whether a row reads another process, and how much they list.
 
 ghost use Rattle.std.specs.Prelude.{◌≡◌, ℕ, true, false, IfOk, option_copied};
-ghost use Rattle.cap_summary.specs.{Effects.own_row, Effects.row_cell, Effects.listed_value, Effects.row_leaves};
-ghost use Rattle.cap_summary.specs.{Effects.leaves, Keys.Cells};
-ghost use Rattle.cap_summary.specs.{Names.Names, Names.RowWithin, RowSizes.IsSizeOf, Sorted.found, Sorted.Rises};
-ghost use Rattle.cap_summary.specs.{declared.key.Key.Key};
+ghost use Rattle.cap_summary.specs.Effects.{own_row, row_cell, listed_value, row_leaves, leaves};
+ghost use Rattle.cap_summary.specs.{Names.{Names, RowWithin, only, has_cell}, Keys.Cells, RowSizes.IsSizeOf};
+ghost use Rattle.cap_summary.specs.{Values.reads_within, declared.key.Key.Key, Sorted.{found, Rises}};
 
 use crate::{Base, DefaultCells, Effect, Key, Map, Passing, Row, SharedRow, Value};
 use cap_trace::Pid;
@@ -34,6 +33,19 @@ impl Clone for Row {
             mode: self.mode.clone()?,
             cells: self.cells.clone()?,
         })
+    }
+}
+
+impl Value {
+    /// Whether it reads no other process than this one.
+    fn reads_only(&self, pid: Pid) -> bool
+        ensures { result ≡ reads_within (has_cell (only pid)) self.now }
+    {
+        match self {
+            Value::Same(source, _) => *source == pid,
+            Value::Of(source, _, _) => *source == pid,
+            _ => true,
+        }
     }
 }
 
@@ -96,6 +108,27 @@ impl Row {
                     && !self.base.closes(fd)
             }
         }
+    }
+
+    /// Whether nothing in it reads another process than this one.
+    pub(crate) fn reads_only(&self, pid: Pid) -> bool
+        ensures { result ≡ true → RowWithin (only pid) self.now }
+    {
+        let mode_reads_only = match &self.mode {
+            Some(value) => value.reads_only(pid),
+            None => true,
+        };
+        let others_read_only = match &self.base.others {
+            DefaultCells::Of(source, _) => *source == pid,
+            _ => true,
+        };
+        mode_reads_only
+            && others_read_only
+            && self
+                .cells
+                .entries()
+                .iter()
+                .all(|cell| cell.1.reads_only(pid))
     }
 }
 
