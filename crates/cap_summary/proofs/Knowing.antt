@@ -9,7 +9,7 @@ use Rattle.cap_summary.specs.{Composing.IsJoined, Effects.changed, Effects.LineL
 use Rattle.cap_summary.specs.{Keys.Cells, Keys.mode_cell, Keys.cells_of, declared.effect.Effect.Effect}
 use Rattle.cap_summary.specs.{declared.key.Key.Key, declared.known.Known.Known, declared.line_asks.LineAsks.LineAsks}
 use Rattle.cap_summary.specs.{declared.precondition.Precondition.Precondition, Knows.Says, Knows.Knows}
-use Rattle.cap_summary.specs.{Knows.StepsLeave, Lines.turned_cell, Lines.line_after, Lines.IsThenLine}
+use Rattle.cap_summary.specs.{Knows.StepsLeave, Effects.turned_cell, Effects.line_after, Effects.IsThenLine}
 use Rattle.cap_summary.specs.LineAsks.{is_refusal, refused, asked_holds, asks_in, refusals_in, has_any}
 use Rattle.cap_summary.specs.Names.{Names, names_in, has_cell, AreAmong, EffectWithin, LineWithin, PreWithin}
 use Rattle.cap_summary.specs.Preconditions.{is_met, IsWithMore, IsPossible, asks_size}

@@ -5,10 +5,9 @@ use Rattle.cap_summary.specs.{option_map_or, list_any, all, Unsure, Closed, Outs
 use Rattle.cap_summary.specs.{Keys.mode_cell, declared.base.Base.Base}
 use Rattle.cap_summary.specs.{declared.value.Value.Value, declared.key.Key.Key, Cell, declared.effect.Effect.Effect}
 use Rattle.cap_summary.specs.{declared.effect.Row.Row, Keys.Cells, Sorted.found, Values.read}
-use Rattle.cap_summary.specs.Lines.{IsStarted, line_after, is_cell}
 use Rattle.cap_summary.specs.Names.{Names, IsListedWithin, RowWithin, RowsWithin, IsRowWithin}
 use Rattle.cap_summary.specs.{Names.EffectWithin}
-use Rattle.cap_summary.specs.Effects.{own_row, base_cell, row_cell, cell_in, changed}
+use Rattle.cap_summary.specs.Effects.{own_row, base_cell, row_cell, cell_in, changed, IsStarted, line_after, is_cell}
 use Rattle.cap_summary.proofs.{Bor, list_any_more, or-false, or-true, eq-eqb, sym, subst, eqb-true}
 use Rattle.cap_summary.proofs.{All-head, All-tail, ap, ◌∙◌}
 

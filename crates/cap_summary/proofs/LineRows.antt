@@ -1,7 +1,7 @@
 -- The cells after a line, by the rows of the processes that it touches.
-use Rattle.cap_summary.specs.{declared.effect.Effect.Effect, declared.effect.Row.Row, declared.key.Key.Key, Lines.IsPut}
-use Rattle.cap_summary.specs.{Lines.turned_cell, Lines.line_after, Lines.is_touched, is_child, Sorted.found}
-use Rattle.cap_summary.specs.{Unknown, Closed, LineEffect, applied, follows, Keys.Cells, Lines.LeavesPut}
+use Rattle.cap_summary.specs.{declared.effect.Effect.Effect, declared.effect.Row.Row, declared.key.Key.Key, Effects.IsPut}
+use Rattle.cap_summary.specs.{Effects.turned_cell, Effects.line_after, Effects.is_touched, is_child, Sorted.found}
+use Rattle.cap_summary.specs.{Unknown, Closed, LineEffect, applied, follows, Keys.Cells, Effects.LeavesPut}
 use Rattle.cap_summary.specs.{Set, Clear, Unsure, Cell, Held, same, kept, given, taken, stays, touched}
 use Rattle.cap_summary.specs.Effects.{row_cell, changed, row_leaves, leaves, leaves_in, LineLeaves, cell_in}
 use Rattle.cap_summary.proofs.{sym, ap, ◌∙◌, inl, inr, subst, eqb-true, eq-eqb, or-false, Bools.or_right}
@@ -35,43 +35,33 @@ same_is (Held r Clear) = refl
 same_is (Held r Unsure) = refl
 
 module _ (me : ℕ) (cells : Cells) where
-  -- what a fork makes of the child, and of its parent, if that is the child
-  forked_mode : (b : Bool) → turned_cell (cond b (follows me) stays) cells me ≡ cells me Key.Mode
-  forked_mode true = refl
-  forked_mode false = refl
-
-  forked_cell : (f : ℕ) (b : Bool)
-      → touched (cond b (taken same me f) kept) (λ q g. cells q (Key.Fd g)) me f ≡ cells me (Key.Fd f)
-  forked_cell f true = same_is (cells me (Key.Fd f))
-  forked_cell f false = refl
-
-  -- with a descriptor of the child's
-  as_mode : (child p : ℕ) (b : Bool) → (p == child) ≡ b → (p == me || b) ≡ true
+  -- what a fork makes of its parent and of the child, with a descriptor of the child's or without
+  as_mode : (p : ℕ) (b : Bool) → (p == me || b) ≡ true
       → turned_cell (cond b (follows me) stays) cells p ≡ cells me Key.Mode
-  as_mode child p true is touched = refl
-  as_mode child p false is touched = ap (λ q. cells q Key.Mode) (eqb-true p me (sym (or-false (p == me)) ∙ touched))
+  as_mode p true touched = refl
+  as_mode p false touched = ap (λ q. cells q Key.Mode) (eqb-true p me (sym (or-false (p == me)) ∙ touched))
 
-  as_cell : (child p f : ℕ) (given_here b : Bool) → (p == me || b) ≡ true
+  as_cell : (p f : ℕ) (given_here b : Bool) → (p == me || b) ≡ true
       → touched (cond given_here (given Unknown) (cond b (taken same me f) kept)) (λ q g. cells q (Key.Fd g)) p f
       ≡ cond given_here Unknown (cells me (Key.Fd f))
-  as_cell child p f true b is = refl
-  as_cell child p f false true is = same_is (cells me (Key.Fd f))
-  as_cell child p f false false is =
-      ap (λ q. cells q (Key.Fd f)) (eqb-true p me (sym (or-false (p == me)) ∙ is))
+  as_cell p f true b is = refl
+  as_cell p f false true is = same_is (cells me (Key.Fd f))
+  as_cell p f false false is = ap (λ q. cells q (Key.Fd f)) (eqb-true p me (sym (or-false (p == me)) ∙ is))
 
-  own_too : (child : ℕ) → (me == me || me == child) ≡ true
-  own_too child = rw (eq-eqb me me refl) refl
+  own_too : (b : Bool) → (me == me || b) ≡ true
+  own_too b = rw (eq-eqb me me refl) refl
 
 touched_so : (line : LineEffect) (me p : ℕ) (cells : Cells) (k : Key) → is_touched line me p ≡ true
     → line_after line me cells p k ≡ line_after line me cells me k
-touched_so (LineEffect.Fork child) me p cells Key.Mode is = rw is (sym (forked_mode me cells (me == child)))
-touched_so (LineEffect.Fork child) me p cells (Key.Fd f) is =
-    rw is (same_is (cells me (Key.Fd f)) ∙ sym (forked_cell me cells f (me == child)))
+touched_so (LineEffect.Fork child) me p cells Key.Mode is =
+    rw is (sym (as_mode me cells me (me == child) (own_too me cells (me == child))))
+touched_so (LineEffect.Fork child) me p cells (Key.Fd f) is = rw is (same_is (cells me (Key.Fd f))
+    ∙ sym (as_cell me cells me f false (me == child) (own_too me cells (me == child))))
 touched_so (LineEffect.ForkAs child g) me p cells Key.Mode is =
-    as_mode me cells child p (p == child) refl is ∙ sym (forked_mode me cells (me == child))
+    as_mode me cells p (p == child) is ∙ sym (as_mode me cells me (me == child) (own_too me cells (me == child)))
 touched_so (LineEffect.ForkAs child g) me p cells (Key.Fd f) is =
-    rw (is, own_too me cells child) (as_cell me cells child p f (f == g) (p == child) is
-    ∙ sym (as_cell me cells child me f (f == g) (me == child) (own_too me cells child)))
+    rw (is, own_too me cells (me == child)) (as_cell me cells p f (f == g) (p == child) is
+    ∙ sym (as_cell me cells me f (f == g) (me == child) (own_too me cells (me == child))))
 touched_so line me p cells k is = ap (λ q. line_after line me cells q k) (eqb-true p me is)
 
 module _ (first : Effect) (new : List (ℕ × Row)) (line : LineEffect) (me : ℕ) (own row : Row) where

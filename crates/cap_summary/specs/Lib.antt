@@ -5,7 +5,6 @@ pub mod Tests
 pub mod Asks
 pub mod Sorted
 pub mod Effects
-pub mod Lines
 pub mod LineAsks
 pub mod Names
 pub mod Composing

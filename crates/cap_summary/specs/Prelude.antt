@@ -1,6 +1,6 @@
 -- The names of std and of the crates below that several files take, passed on from one place. Declares nothing.
 pub use Rattle.std.specs.Prelude.{[], All, Bool, IfNone, IfOk, IfSome, IsPermutation, length, List, None, Option}
-pub use Rattle.std.specs.Prelude.{option_and_then, refl, Some, take, true, unwrap_or, ℕ}
+pub use Rattle.std.specs.Prelude.{refl, Some, take, true, unwrap_or, ℕ}
 pub use Rattle.std.specs.declared.{alloc.Global.Global, cmp.Ordering.Ordering, cmp.Ordering.TheVariants.Equal}
 pub use Rattle.std.specs.declared.{cmp.Ordering.TheVariants.Greater, cmp.Ordering.TheVariants.Less, rc.Rc.Rc}
 pub use Rattle.std.specs.{Cmp.Lexicographic.pointwise, Int.bit_at, List.AllZip, List.list_all, List.list_any}

@@ -2,10 +2,9 @@
 
 ghost use Rattle.std.specs.Prelude.{◌≡◌, ◌==◌, if◌then◌else◌, ℕ, true, false, Some, None, unwrap_or, IfOk, OnOk};
 ghost use Rattle.std.specs.Prelude.{All};
-ghost use Rattle.cap_summary.specs.{fds_spelled, is_child, Keys.Cells, Sorted.found, Effects.row_leaves};
-ghost use Rattle.cap_summary.specs.{Values.read, declared.key.Key.Key, Lines.line_after, Effects.row_cell};
-ghost use Rattle.cap_summary.specs.Effects.{own_row, changed, leaves, LineLeaves, LeavesThenLine};
-ghost use Rattle.cap_summary.specs.Lines.{IsThenLine, IsPut, LeavesPut, IsStarted, sets_cells, is_cell};
+ghost use Rattle.cap_summary.specs.{fds_spelled, is_child, Keys.Cells, Sorted.found, Values.read, declared.key.Key.Key};
+ghost use Rattle.cap_summary.specs.Effects.{own_row, changed, leaves, row_cell, row_leaves, LineLeaves, LeavesThenLine};
+ghost use Rattle.cap_summary.specs.Effects.{IsThenLine, IsPut, LeavesPut, IsStarted, sets_cells, is_cell, line_after};
 ghost use Rattle.cap_summary.specs.Names.{Names, IsListedWithin, ListWithin, RowWithin};
 ghost use Rattle.cap_summary.specs.Names.{RowsWithin, EffectWithin, LineWithin};
 
