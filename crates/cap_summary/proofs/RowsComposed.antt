@@ -4,7 +4,8 @@ use Rattle.cap_summary.specs.{option_map_or, Composing.IsHandedSo, declared.base
 use Rattle.cap_summary.specs.{Cell, Closed, Keys.Cells, Sorted.found, Values.read, declared.key.Key.Key}
 use Rattle.cap_summary.specs.Effects.{base_cell, row_cell, changed, base_leaves, row_leaves}
 use Rattle.cap_summary.specs.Effects.{passed, is_from, is_own, leaves}
-use Rattle.cap_summary.proofs.{ap, ◌∙◌, and_from, not-true, Bools.and_left, Bools.and_right}
+use Rattle.std.proofs.{lemmas.Bool.and_parts}
+use Rattle.cap_summary.proofs.{ap, ◌∙◌, and_from, not-true}
 use Rattle.std.specs.Prelude.{ℕ, Bool, false, cond, Option, Some, None, List, is_none}
 use Rattle.std.specs.Prelude.{◌≡◌, ◌&&◌, ◌||◌, not, true, refl}
 
@@ -21,22 +22,6 @@ module _ (cells after : Cells) (p : ℕ) (passing : Passing) (base : Base) (rest
   handed_so None false is below = below is
   handed_so (Some v) false is below = let here = rw is at (below is) in rw is here
 
--- a row after two segments, where `new` lists what the second lists and what it is handed on
-pub composed_row : (first : Effect) (p : ℕ) (row new : Row) (passing : Passing) (handed : List (ℕ × Value))
-    → ((cells : Cells) → row_cell cells p new Key.Mode ≡ row_cell (changed first cells) p row Key.Mode)
-    → ((f : ℕ) → IsHandedSo first passing row.base.closed_from f (found row.cells f) (found handed f) (found new.cells f))
-    → ((cells : Cells) (f : ℕ) → is_from row.base.closed_from f ≡ true → base_cell cells p new.base f ≡ Closed)
-    → ((cells : Cells) (f : ℕ) → is_from row.base.closed_from f ≡ false
-    → option_map_or (λ v. passed passing (read cells v)) (found handed f) (base_cell cells p new.base f)
-    ≡ base_cell (changed first cells) p row.base f)
-    → (cells : Cells) (k : Key) → row_cell cells p new k ≡ row_cell (changed first cells) p row k
-composed_row first p row new passing handed mode each closed below cells Key.Mode = mode cells
-composed_row first p row new passing handed mode each closed below cells (Key.Fd f) =
-    (each f).cells cells (base_cell cells p new.base f)
-    ∙ ap (option_map_or (read (changed first cells)) (found row.cells f)) (handed_so cells (changed first cells) p passing
-    row.base (base_cell cells p new.base f) f (closed cells f) (found handed f) (is_from row.base.closed_from f) refl
-    (below cells f))
-
 -- a descriptor that isn't listed after both is listed in the second one nowhere, and is closed there or not handed on
 unlisted_in_both : (listed handed new closed : Bool) → new ≡ (listed && (handed || closed)) → new ≡ true
     → closed ≡ false → (listed ≡ true) × (handed ≡ true)
@@ -44,20 +29,32 @@ unlisted_in_both true true new closed is none below = (refl, refl)
 unlisted_in_both true false new closed is none below = absurd cc
 unlisted_in_both false handed new closed is none below = absurd cc
 
-pub composed_leaves : (first : Effect) (p : ℕ) (row new : Row) (passing : Passing) (handed : List (ℕ × Value))
-    → (is_none new.mode ≡ true → (leaves first p Key.Mode ≡ true) × (is_none row.mode ≡ true))
-    → ((f : ℕ) → base_leaves new.base f ≡ true → (base_leaves row.base f ≡ true)
-    × (is_none (found handed f) ≡ true → leaves first p (Key.Fd f) ≡ true))
-    → ((f : ℕ) → IsHandedSo first passing row.base.closed_from f (found row.cells f) (found handed f) (found new.cells f))
-    → (k : Key) → row_leaves new k ≡ true → (leaves first p k ≡ true) × (row_leaves row k ≡ true)
-composed_leaves first p row new passing handed mode base each Key.Mode left = mode left
-composed_leaves first p row new passing handed mode base each (Key.Fd f) left =
-    let none : is_none (found new.cells f) ≡ true = and_left (is_none (found new.cells f)) (base_leaves new.base f) left in
-    let own : base_leaves new.base f ≡ true = and_right (is_none (found new.cells f)) (base_leaves new.base f) left in
-    let here : base_leaves row.base f ≡ true = (base f own).0 in
-    let below : is_from row.base.closed_from f ≡ false = not-true (is_from row.base.closed_from f)
-    (and_right (is_own row.base.others) (not (is_from row.base.closed_from f)) here) in
-    let both : (is_none (found row.cells f) ≡ true) × (is_none (found handed f) ≡ true) = unlisted_in_both
-    (is_none (found row.cells f)) (is_none (found handed f)) (is_none (found new.cells f))
-    (is_from row.base.closed_from f) (each f).unlisted none below in
-    ((base f own).1 both.1, and_from (is_none (found row.cells f)) (base_leaves row.base f) both.0 here)
+-- a row after two segments, where `new` lists what the second lists and what it is handed on
+module _ (first : Effect) (p : ℕ) (row new : Row) (passing : Passing) (handed : List (ℕ × Value))
+    (each : (f : ℕ) → IsHandedSo first passing row.base.closed_from f (found row.cells f) (found handed f)
+    (found new.cells f)) where
+  pub composed_row : ((cells : Cells) → row_cell cells p new Key.Mode ≡ row_cell (changed first cells) p row Key.Mode)
+      → ((cells : Cells) (f : ℕ) → is_from row.base.closed_from f ≡ true → base_cell cells p new.base f ≡ Closed)
+      → ((cells : Cells) (f : ℕ) → is_from row.base.closed_from f ≡ false
+      → option_map_or (λ v. passed passing (read cells v)) (found handed f) (base_cell cells p new.base f)
+      ≡ base_cell (changed first cells) p row.base f)
+      → (cells : Cells) (k : Key) → row_cell cells p new k ≡ row_cell (changed first cells) p row k
+  composed_row mode closed below cells Key.Mode = mode cells
+  composed_row mode closed below cells (Key.Fd f) = (each f).cells cells (base_cell cells p new.base f)
+      ∙ ap (option_map_or (read (changed first cells)) (found row.cells f)) (handed_so cells (changed first cells) p
+      passing row.base (base_cell cells p new.base f) f (closed cells f) (found handed f)
+      (is_from row.base.closed_from f) refl (below cells f))
+
+  pub composed_leaves : (is_none new.mode ≡ true → (leaves first p Key.Mode ≡ true) × (is_none row.mode ≡ true))
+      → ((f : ℕ) → base_leaves new.base f ≡ true → (base_leaves row.base f ≡ true)
+      × (is_none (found handed f) ≡ true → leaves first p (Key.Fd f) ≡ true))
+      → (k : Key) → row_leaves new k ≡ true → (leaves first p k ≡ true) × (row_leaves row k ≡ true)
+  composed_leaves mode base Key.Mode left = mode left
+  composed_leaves mode base (Key.Fd f) left =
+      let none = and_parts (is_none (found new.cells f)) (base_leaves new.base f) left in
+      let here = base f none.1 in
+      let below : is_from row.base.closed_from f ≡ false = not-true (is_from row.base.closed_from f)
+      (and_parts (is_own row.base.others) (not (is_from row.base.closed_from f)) here.0).1 in
+      let both = unlisted_in_both (is_none (found row.cells f)) (is_none (found handed f)) (is_none (found new.cells f))
+      (is_from row.base.closed_from f) (each f).unlisted none.0 below in
+      (here.1 both.1, and_from (is_none (found row.cells f)) (base_leaves row.base f) both.0 here.0)

@@ -118,16 +118,12 @@ pub found_nowhere : {V : Type 0} (l : List (ℕ × V)) (key : ℕ) → length l 
 found_nowhere [] key none = refl
 found_nowhere (x ∷ rest) key none = absurd (omega arith)
 
--- each entry has the same key
-module _ {V : Type 0} (Copied : V → V → Type 0) where
-  abbrev IsEntry : ℕ × V → ℕ × V → Type 0
-  IsEntry x y = (y.0 ≡ x.0) × Copied x.1 y.1
-
-  pub rises_too : (bound : ℕ) (old copy : List (ℕ × V)) → AllZip IsEntry old copy → RisesFrom bound old
-      → RisesFrom bound copy
-  rises_too bound [] [] all rises = tt
-  rises_too bound [] (y ∷ copy) all rises = absurd all
-  rises_too bound (x ∷ old) [] all rises = absurd all
-  rises_too bound ((k, v) ∷ old) ((l, w) ∷ copy) all rises =
-      let same : l ≡ k = all.0.0 in
-      rw same (rises.0, rises_too (k + 1) old copy all.1 rises.1)
+-- where each entry has the same key, the keys rise too
+pub rises_too : {V : Type 0} (Copied : V → V → Type 0) (bound : ℕ) (old copy : List (ℕ × V))
+    → AllZip (λ x y. (y.0 ≡ x.0) × Copied x.1 y.1) old copy → RisesFrom bound old → RisesFrom bound copy
+rises_too Copied bound [] [] all rises = tt
+rises_too Copied bound [] (y ∷ copy) all rises = absurd all
+rises_too Copied bound (x ∷ old) [] all rises = absurd all
+rises_too Copied bound ((k, v) ∷ old) ((l, w) ∷ copy) all rises =
+    let same : l ≡ k = all.0.0 in
+    rw same (rises.0, rises_too Copied (k + 1) old copy all.1 rises.1)

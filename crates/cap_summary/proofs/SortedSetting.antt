@@ -12,17 +12,13 @@ gap_tail x l key at gap = record {
   greater = λ i d after lt. gap.greater (suc i) d (omega arith) (omega arith);
 }
 
--- a greater first key than the bound lets the keys rise from there
-rises_above : {V : Type 0} (b key : ℕ) (l : List (ℕ × V)) → RisesFrom b l → IsGap l key 0 → RisesFrom (key + 1) l
-rises_above b key [] rises gap = tt
-rises_above b key ((j, u) ∷ rest) rises gap =
-    let first : key < j = gap.greater 0 (j, u) (omega arith) (omega arith) in
-    (omega arith, rises.1)
-
 -- a new entry in the gap keeps the order
 pub RisesFrom-insert : {V : Type 0} (b : ℕ) (l : List (ℕ × V)) (key at : ℕ) (v : V) → RisesFrom b l
     → IsGap l key at → b ≤ key → RisesFrom b (insert l at (key, v))
-RisesFrom-insert b l key zero v rises gap le = (le, rises_above b key l rises gap)
+RisesFrom-insert b [] key zero v rises gap le = (le, tt)
+RisesFrom-insert b ((j, u) ∷ rest) key zero v rises gap le =
+    let first : key < j = gap.greater 0 (j, u) (omega arith) (omega arith) in
+    (le, (omega arith, rises.1))
 RisesFrom-insert b [] key (suc at) v rises gap le = absurd (omega (arith, gap.in_range))
 RisesFrom-insert b ((j, u) ∷ rest) key (suc at) v rises gap le =
     let first : j < key = gap.smaller 0 (j, u) (omega arith) in

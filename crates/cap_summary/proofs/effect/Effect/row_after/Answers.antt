@@ -15,10 +15,10 @@ returns c =
     let each : (f : ℕ) → IsHandedSo first handed.result.passing row.base.closed_from f (found row.cells f)
     (found handed.result.cells.now f) (found listed f) = λ f. rw c.entries.ensures.all at (c.in_ok-cells.ensures f) in
     record {
-      cells = composed_row first p row new handed.result.passing handed.result.cells.now mode.reads each
+      cells = composed_row first p row new handed.result.passing handed.result.cells.now each mode.reads
           handed.ensures.closed handed.ensures.«open»;
-      leaves = composed_leaves first p row new handed.result.passing handed.result.cells.now mode.leaves
-          handed.ensures.leaves each;
+      leaves = composed_leaves first p row new handed.result.passing handed.result.cells.now each mode.leaves
+          handed.ensures.leaves;
       names = λ names of read here own. record {
         cells = λ f. (each f).names names of read (here.row.cells f) (own.cells f)
             (handed.ensures.cells_named names of read here.pid here.row.others f);
