@@ -4,15 +4,12 @@ use Rattle.cap_summary.specs.{Similarity, Side, Left, Right, part_at, Effects.ce
 use Rattle.cap_summary.specs.{Keys.cells_of, Sorted.found, declared.effect.Effect.Effect, declared.known.Known.Known}
 use Rattle.cap_summary.specs.{declared.precondition.Precondition.Precondition}
 use Rattle.cap_summary.specs.Composing.{IsJoined, IsComposedSo, IsJoinedEffect, AreAlike, KeepsEffect}
-use Rattle.cap_summary.specs.Names.{Names, EffectWithin, PreWithin}
+use Rattle.cap_summary.specs.Names.{Names, PreWithin}
 use Rattle.cap_summary.specs.Preconditions.{is_met, IsPossible, IsSamePrecondition, IsAskedByBoth}
 use Rattle.cap_summary.proofs.{ap, ◌∙◌, arith}
 
 same_cells : (a b : Effect) → a.rows ≡ b.rows → (cells : Cells) → changed a cells ≡ changed b cells
 same_cells a b same cells = ap (λ rows. λ p k. cell_in cells (found rows p) p k) same
-
-named_too : (a b : Effect) → a.rows ≡ b.rows → (names : Names) → EffectWithin names b → EffectWithin names a
-named_too a b same names within = rw same within
 
 pub keeps_none : (side : Side) (similarity : Similarity) → similarity.precondition ≡ false → KeepsEffect side similarity
 keeps_none side similarity none = grind (arith, none)
@@ -50,7 +47,7 @@ first_asks was first own new later old effect same asked = record {
       ∙ ap (λ r. r || is_met (changed was (cells_of s)) later) (same_met own new same (cells_of s))
       ∙ ap (λ (c : Cells). is_met (cells_of s) new || is_met c later) (same_cells was first effect (cells_of s));
   possible = λ mine other. asked.possible (possible_back own new same mine) other;
-  names = λ names one mine other. asked.names names (named_too was first effect names one) (named_back own new same names mine) other;
+  names = λ names one mine other. asked.names names (rw effect one) (named_back own new same names mine) other;
   settled = asked.settled;
   few = rw (same.asks, same.refusals) at asked.few;
   refusals = rw same.refusals at asked.refusals;
