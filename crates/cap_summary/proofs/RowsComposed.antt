@@ -5,7 +5,7 @@ use Rattle.cap_summary.specs.{Cell, Closed, Keys.Cells, Sorted.found, Values.rea
 use Rattle.cap_summary.specs.Effects.{base_cell, row_cell, changed, base_leaves, row_leaves}
 use Rattle.cap_summary.specs.Effects.{passed, is_from, is_own, leaves}
 use Rattle.std.proofs.{lemmas.Bool.and_parts}
-use Rattle.cap_summary.proofs.{ap, ◌∙◌, and_from, not-true}
+use Rattle.cap_summary.proofs.{ap, ◌∙◌, and_from, arith, not-true}
 use Rattle.std.specs.Prelude.{ℕ, Bool, false, cond, Option, Some, None, List, is_none}
 use Rattle.std.specs.Prelude.{◌≡◌, ◌&&◌, ◌||◌, not, true, refl}
 
@@ -25,9 +25,7 @@ module _ (cells after : Cells) (p : ℕ) (passing : Passing) (base : Base) (rest
 -- a descriptor that isn't listed after both is listed in the second one nowhere, and is closed there or not handed on
 unlisted_in_both : (listed handed new closed : Bool) → new ≡ (listed && (handed || closed)) → new ≡ true
     → closed ≡ false → (listed ≡ true) × (handed ≡ true)
-unlisted_in_both true true new closed is none below = (refl, refl)
-unlisted_in_both true false new closed is none below = absurd cc
-unlisted_in_both false handed new closed is none below = absurd cc
+unlisted_in_both listed handed new closed is none below = (grind (arith, is, none, below), grind (arith, is, none, below))
 
 -- a row after two segments, where `new` lists what the second lists and what it is handed on
 module _ (first : Effect) (p : ℕ) (row new : Row) (passing : Passing) (handed : List (ℕ × Value))

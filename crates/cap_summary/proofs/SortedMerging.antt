@@ -59,10 +59,6 @@ bound_le lefts rights bound key left right one = elim (cases_lt key bound) [
   | inr at_least ↦ at_least
 ]
 
-or_none : {X : Type 0} (o : Option X) → option_or o None ≡ o
-or_none None = refl
-or_none (Some x) = refl
-
 module _ {L R O : Type 0} {gives : ℕ → Option L → Option R → Option O
     → Type 0} {left lefts : List (ℕ × L)} {right rights : List
     (ℕ × R)} {merged : List (ℕ × O)} {bound : ℕ} (so_far : IsMergedTo gives left lefts right rights merged bound) where
@@ -127,5 +123,5 @@ module _ {L R O : Type 0} {gives : ℕ → Option L → Option R → Option O
         merged_more (merged ++ (key, v) ∷ []) (RisesFrom-append 0 merged key v so_far.merged_rises
         (λ k over. so_far.merged_below k (omega (arith, over))) (omega arith))
         (λ k over. rw (put k, so_far.merged_below k (omega (arith, over)), ne_eqb key k (omega (arith, over))) refl)
-        (λ k lower. put k ∙ rw (ne_eqb key k (omega (arith, lower))) (or_none (found merged k)))
+        (λ k lower. let more = put k in grind (arith, nat_tests, more, lower))
         (rw (put key, so_far.merged_below key le, eq-eqb key key refl) here)
