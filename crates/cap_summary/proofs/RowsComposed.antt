@@ -25,7 +25,8 @@ module _ (cells after : Cells) (p : ℕ) (passing : Passing) (base : Base) (rest
 -- a descriptor that isn't listed after both is listed in the second one nowhere, and is closed there or not handed on
 unlisted_in_both : (listed handed new closed : Bool) → new ≡ (listed && (handed || closed)) → new ≡ true
     → closed ≡ false → (listed ≡ true) × (handed ≡ true)
-unlisted_in_both listed handed new closed is none below = (grind (arith, is, none, below), grind (arith, is, none, below))
+unlisted_in_both listed handed new closed is none below =
+    (grind (arith, is, none, below), grind (arith, is, none, below))
 
 -- a row after two segments, where `new` lists what the second lists and what it is handed on
 module _ (first : Effect) (p : ℕ) (row new : Row) (passing : Passing) (handed : List (ℕ × Value))

@@ -7,7 +7,8 @@ returns-in_ok-set-in-GiveTwo-clause-names c = on_ok_weaker c.set-in-GiveTwo-2.re
     let two = two_named names c.in-GiveTwo.fd c.in-GiveTwo.other (rw c.in-GiveTwo.is at line.fds) in
     second names line.own (record { key = two.1; source = c.of-in-GiveTwo-2.ensures.names (has_cell names) })
     (c.in_ok-set-in-GiveTwo.ensures.names names line.own
-    (record { key = two.0; source = c.of-in-GiveTwo.ensures.names (has_cell names) }) effect)) c.set-in-GiveTwo-2.ensures.names
+    (record { key = two.0; source = c.of-in-GiveTwo.ensures.names (has_cell names) }) effect))
+    c.set-in-GiveTwo-2.ensures.names
 
 pub returns-in_ok-value-in-Change-clause-names : goal.returns-in_ok-value-in-Change-clause-names
 returns-in_ok-value-in-Change-clause-names c = on_ok_weaker c.set-in-Change.result (λ set names line effect.
