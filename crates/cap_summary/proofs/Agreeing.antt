@@ -1,16 +1,15 @@
 -- States that agree on the processes that make a later step.
+use Rattle.std.specs.Prelude.{Bool, List, OnOk, Result, false, if◌then◌else◌, length, map, refl, true, ◌++◌, ◌+◌, ◌<◌}
+use Rattle.std.specs.Prelude.{[], ℕ, ◌∷◌, ◌≡◌, ◌≤◌}
+use Rattle.cap_summary.proofs.{Resolving.found_outside, Resolving.found_parts, Resolving.same_beyond, ap, length-append}
+use Rattle.cap_summary.proofs.{arith, cases_lt, ends_in_turn, fun_ext, inl, inr, ne_eqb, on_ok_weaker, subst, sym, ◌∙◌}
 use Rattle.cap_trace.specs.Call.{Call}
-use Rattle.cap_machine.specs.{Judge.judged, History.turned, Touch.call_turn, Touch.item_turn, State.with_listed}
+use Rattle.cap_machine.specs.{History.turned, Judge.judged, State.with_listed, Touch.call_turn, Touch.item_turn}
 use Rattle.cap_machine.proofs.NamedFds.{named_sources}
-use Rattle.std.specs.Prelude.{◌≡◌, ◌+◌, ◌<◌, ◌≤◌, ◌∷◌, ◌++◌, ℕ, List, [], Bool, true, false}
-use Rattle.std.specs.Prelude.{if◌then◌else◌, length, map, refl, Result, OnOk}
-use Rattle.cap_summary.specs.{Step, State, Cell, Unknown, Mode, Item, Answer, Check, stays, turns, follows, Touch}
-use Rattle.cap_summary.specs.{Finding, given, kept, taken, applied, touched, touch, ended, said, requirement, listed}
-use Rattle.cap_summary.specs.{Found, declared.judging.Asked.Asked, declared.last_steps.LastSteps.LastSteps}
-use Rattle.cap_summary.specs.LastSteps.{last_of, IsNoLess, AreNoted, AgreeAfter, AreJudged}
-use Rattle.cap_summary.proofs.{ap, sym, ◌∙◌, arith, fun_ext, ne_eqb, subst, ends_in_turn, inl, inr, cases_lt}
-use Rattle.cap_summary.proofs.{length-append, on_ok_weaker}
-use Rattle.cap_summary.proofs.Resolving.{found_outside, found_parts, same_beyond}
+use Rattle.cap_summary.specs.{Check, declared.judging.Asked.Asked, declared.last_steps.LastSteps.LastSteps, requirement}
+use Rattle.cap_summary.specs.{Answer, Finding, Found, State, Touch, Unknown, applied, ended, follows, listed, touched}
+use Rattle.cap_summary.specs.{Cell, Item, Mode, Step, given, kept, said, stays, taken, touch, turns}
+use Rattle.cap_summary.specs.LastSteps.{AgreeAfter, AreJudged, AreNoted, IsNoLess, last_of}
 
 -- ---- steps whose processes are noted
 

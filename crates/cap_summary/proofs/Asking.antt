@@ -1,12 +1,12 @@
 -- Asks that hold in every state, in none, or in some.
-use Rattle.std.specs.Prelude.{◌≡◌, ◌&&◌, ◌||◌, ◌∷◌, if◌then◌else◌, ℕ, true, false, refl, Bool, List, [], not}
-use Rattle.cap_summary.specs.{list_all, none, has_all, OnExec, Set, Clear, Unsure, Cell, Unknown, Closed, Held, Mode}
-use Rattle.cap_summary.specs.{Inside, Outside, State, declared.ask.Ask.Ask, declared.key.Key.Key}
-use Rattle.cap_summary.specs.{declared.kinds.Kinds.Kinds, Keys.Cells, Keys.mode_cell, Keys.cell_mode, Keys.cells_of}
-use Rattle.cap_summary.specs.Asks.{standing, is_sure, certain_at, possible_at, IsOpen}
-use Rattle.cap_summary.specs.Tests.{has, has_kind, held_kind, lacks, any_held, any_kind, holding, passes, each_kind}
-use Rattle.cap_summary.proofs.{inl, inr, ap, ◌∙◌, arith, or-true, or_parts, or_cases, Bools.and_left, Bools.and_right}
-use Rattle.cap_summary.proofs.TestPassing.{own_rights, none_lacks}
+use Rattle.std.specs.Prelude.{Bool, List, [], false, if◌then◌else◌, not, refl, true, ℕ, ◌&&◌, ◌||◌, ◌∷◌, ◌≡◌}
+use Rattle.cap_summary.proofs.{Bools.and_left, Bools.and_right, ap, arith, inl, inr, or-true, or_cases, or_parts, ◌∙◌}
+use Rattle.cap_summary.proofs.TestPassing.{none_lacks, own_rights}
+use Rattle.cap_summary.specs.{Keys.cell_mode, declared.ask.Ask.Ask, declared.key.Key.Key, declared.kinds.Kinds.Kinds}
+use Rattle.cap_summary.specs.{Closed, Keys.Cells, Keys.cells_of, Keys.mode_cell, Outside, Unknown, has_all, list_all}
+use Rattle.cap_summary.specs.{Cell, Clear, Held, Inside, Mode, OnExec, Set, State, Unsure, none}
+use Rattle.cap_summary.specs.Tests.{any_held, any_kind, each_kind, has, has_kind, held_kind, holding, lacks, passes}
+use Rattle.cap_summary.specs.Asks.{IsOpen, certain_at, is_sure, possible_at, standing}
 
 -- the state in which each cell and each mode is as given
 abbrev everywhere : Cell → Mode → State

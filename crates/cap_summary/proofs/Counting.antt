@@ -1,7 +1,7 @@
 -- How much rows list.
-use Rattle.std.specs.Prelude.{◌≡◌, ◌+◌, ◌<◌, ◌∷◌, ◌++◌, ℕ, List, [], length, get_or, take, All}
-use Rattle.cap_summary.specs.{RowSizes.rows_size, RowSizes.CellsRise, declared.effect.Row.Row}
-use Rattle.cap_summary.proofs.{ap, ◌∙◌, sym, subst, arith, take_more, All-push}
+use Rattle.std.specs.Prelude.{All, List, [], get_or, length, take, ℕ, ◌++◌, ◌+◌, ◌<◌, ◌∷◌, ◌≡◌}
+use Rattle.cap_summary.proofs.{All-push, ap, arith, subst, sym, take_more, ◌∙◌}
+use Rattle.cap_summary.specs.{RowSizes.CellsRise, RowSizes.rows_size, declared.effect.Row.Row}
 
 sizes-append : (a b : List (ℕ × Row)) → rows_size (a ++ b) ≡ rows_size a + rows_size b
 sizes-append [] b = omega arith

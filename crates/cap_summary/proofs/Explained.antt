@@ -1,10 +1,9 @@
 -- Which step of a trace is explained.
-use Rattle.cap_machine.specs.{Explain.explained_at}
-use Rattle.std.specs.Prelude.{◌≡◌, ◌+◌, ◌<◌, ◌≤◌, ◌∷◌, ◌++◌, ℕ, List, [], length, take, drop}
-use Rattle.std.specs.Prelude.{get_or, Some, None, refl, reverse}
-use Rattle.cap_summary.specs.{Step, State, explained, explanation}
-use Rattle.cap_summary.proofs.{nat_tests, sym, ap, ◌∙◌, arith, length-append, reverse-append, length-reverse}
-use Rattle.cap_summary.proofs.{take-append-drop, length-take-le, take_more}
+use Rattle.std.specs.Prelude.{List, None, Some, [], drop, get_or, length, refl, take, ℕ, ◌++◌, ◌+◌, ◌<◌, ◌∷◌, ◌≡◌, ◌≤◌}
+use Rattle.cap_summary.proofs.{arith, length-append, length-reverse, length-take-le, reverse-append, take-append-drop}
+use Rattle.cap_summary.proofs.{ap, nat_tests, sym, take_more, ◌∙◌}
+use Rattle.cap_summary.specs.{State, Step, explained, explanation, reverse}
+use Rattle.cap_machine.specs.Explain.{explained_at}
 
 -- a step that isn't at the position
 passed : (s : State) (step : Step) (history : List Step) (k : ℕ) → (k ≡ length history + 1 → ⊥)

@@ -1,13 +1,12 @@
 -- How much is listed and asked at most where only these processes and descriptors are named.
-use Rattle.std.proofs.{Math.Nat.mul_assoc}
-use Rattle.std.specs.Prelude.{◌≡◌, ◌+◌, ◌*◌, ◌^◌, ◌<◌, ◌≤◌, ◌∷◌, ℕ, List, [], length, map, true, refl, All}
-use Rattle.cap_summary.specs.{Names.has_cell, Names.has_key, declared.ask.Ask.Ask, declared.key.Key.Key}
-use Rattle.cap_summary.specs.{Asks.held_number, Asks.key_number, Asks.place, Asks.place_in_process, Asks.RisesFrom}
-use Rattle.cap_summary.specs.{Asks.Rises, Asks.AskWithin, Asks.AreWithin, Kept.is_one, Kept.these, Kept.room}
-use Rattle.cap_summary.proofs.{sym, ap, ◌∙◌, arith, nat_tests, length-map, All-head, All-tail}
-use Rattle.cap_summary.proofs.Bools.{and_left, and_right}
-use Rattle.cap_summary.proofs.FewKeys.{all_of, among_all, among_mapped, count_all, count_each, count_from, count_taken}
-use Rattle.cap_summary.proofs.FewKeys.{in_second}
+use Rattle.std.specs.Prelude.{All, List, [], length, map, refl, true, ℕ, ◌*◌, ◌+◌, ◌<◌, ◌^◌, ◌∷◌, ◌≡◌, ◌≤◌}
+use Rattle.cap_summary.proofs.{FewKeys.among_mapped, FewKeys.count_each, FewKeys.count_from, FewKeys.count_taken, arith}
+use Rattle.cap_summary.proofs.{Bools.and_left, Bools.and_right, FewKeys.among_all, FewKeys.count_all, FewKeys.in_second}
+use Rattle.cap_summary.proofs.{All-head, All-tail, FewKeys.all_of, ap, length-map, nat_tests, sym, ◌∙◌}
+use Rattle.std.proofs.Math.Nat.{mul_assoc}
+use Rattle.cap_summary.specs.{Asks.held_number, Asks.place_in_process, declared.ask.Ask.Ask, declared.key.Key.Key}
+use Rattle.cap_summary.specs.{Asks.AreWithin, Asks.AskWithin, Asks.RisesFrom, Asks.key_number, Names.has_cell}
+use Rattle.cap_summary.specs.{Asks.Rises, Asks.place, Kept.is_one, Kept.room, Kept.these, Names.has_key}
 
 -- ---- the places at which may be asked
 

@@ -1,10 +1,9 @@
 -- How long a list is whose numbers strictly rise and are all among some numbers.
-use Rattle.std.proofs.{Math.Nat.add-mul, Math.Nat.one-mul}
-use Rattle.std.specs.Prelude.{◌≡◌, ◌+◌, ◌*◌, ◌≤◌, ◌∷◌, ◌++◌, ◌||◌, ℕ, eqb, List, [], length, map, true}
-use Rattle.std.specs.Prelude.{false, cond, is_some, nat_le}
-use Rattle.cap_summary.specs.{Kept.is_one, Sorted.found, Sorted.RisesFrom}
-use Rattle.cap_summary.proofs.{sym, ap, ◌∙◌, arith, subst, length-append, or-true, eqb-true, eq-eqb, list_any-append}
-use Rattle.cap_summary.proofs.{nat_tests, inl, inr, or_cases}
+use Rattle.std.specs.Prelude.{List, [], cond, eqb, false, length, map, true, ℕ, ◌*◌, ◌++◌, ◌+◌, ◌||◌, ◌∷◌, ◌≡◌, ◌≤◌}
+use Rattle.cap_summary.proofs.{arith, eq-eqb, eqb-true, length-append, list_any-append, nat_tests, or-true, or_cases}
+use Rattle.cap_summary.proofs.{ap, inl, inr, subst, sym, ◌∙◌}
+use Rattle.cap_summary.specs.{Kept.is_one, Sorted.RisesFrom, Sorted.found, is_some, nat_le}
+use Rattle.std.proofs.Math.Nat.{add-mul, one-mul}
 
 -- how many of some numbers are not below a bound
 abbrev pub count_from : ℕ → List ℕ → ℕ

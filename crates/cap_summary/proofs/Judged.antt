@@ -1,13 +1,13 @@
 -- What was judged of a run so far, and how many steps are judged at least for what is found.
+use Rattle.std.specs.Prelude.{Bool, List, [], cond, length, map, nat_le, refl, ℕ, ◌&&◌, ◌++◌, ◌+◌, ◌∷◌, ◌≡◌, ◌≤◌}
+use Rattle.cap_summary.proofs.{ap, append-nil, arith, eq-eqb, length-map, sym, ◌∙◌}
+use Rattle.cap_summary.proofs.Resolving.{found_all, found_parts, one_found, said_at}
 use Rattle.cap_machine.proofs.Turns.{same_state}
-use Rattle.std.specs.Prelude.{◌≡◌, ℕ, List, refl, ◌+◌, ◌∷◌, ◌++◌, [], length, map, ◌≤◌, ◌&&◌, nat_le, Bool, cond}
-use Rattle.cap_summary.specs.{Step, Mode, State, ended, Found, said, found_at, Rc, Finding, values}
-use Rattle.cap_summary.specs.{declared.effect.Effect.Effect, declared.key.Key.Key, declared.known.Known.Known}
-use Rattle.cap_summary.specs.{declared.judging.Asked.Asked, declared.judging.Report.Report, Effects.changed}
-use Rattle.cap_summary.specs.{Knows.Knows, Keys.state_of, Keys.cells_of, Keys.mode_cell, Keys.cell_mode, Keys.Cells}
-use Rattle.cap_summary.specs.Positions.{said_in, found_in, starts, positions, WereJudged}
-use Rattle.cap_summary.proofs.{ap, ◌∙◌, sym, append-nil, arith, eq-eqb, length-map}
-use Rattle.cap_summary.proofs.Resolving.{said_at, found_all, found_parts, one_found}
+use Rattle.cap_summary.specs.{declared.effect.Effect.Effect, declared.judging.Report.Report, declared.known.Known.Known}
+use Rattle.cap_summary.specs.{Effects.changed, Keys.cell_mode, Mode, declared.judging.Asked.Asked, declared.key.Key.Key}
+use Rattle.cap_summary.specs.{Finding, Keys.Cells, Keys.cells_of, Keys.mode_cell, Keys.state_of, Knows.Knows, found_at}
+use Rattle.cap_summary.specs.{Found, Rc, State, Step, ended, said, values}
+use Rattle.cap_summary.specs.Positions.{WereJudged, found_in, positions, said_in, starts}
 
 pub mode_back : (m : Mode) → cell_mode (mode_cell m) ≡ m
 mode_back m = grind arith

@@ -1,17 +1,16 @@
 -- What is known is kept where few processes and descriptors are named, unless many calls were refused.
-use Rattle.cap_summary.specs.{Step, Preconditions.IsSettled, declared.known.Known.Known, declared.node.Content.Content}
-use Rattle.cap_summary.specs.{Content.KeepsParts, Knows.Knows, declared.effect.Row.Row, LineAsks.refused}
-use Rattle.cap_summary.specs.Kept.{is_one, these, room, NameOrRefuseMany, limit, IsKept, IsWithin, IsLarge, ListsMany}
-use Rattle.cap_summary.specs.Names.{names_in, AreAmong, IsListedWithin, IsRowWithin, ListWithin, RowsWithin}
-use Rattle.cap_summary.specs.Sorted.{found, Rises, RisesFrom, KeysRise}
-use Rattle.cap_summary.specs.RowSizes.{rows_size, CellsRise, AllRise}
-use Rattle.cap_summary.specs.declared.node.Content.TheVariants.{Run, Both}
-use Rattle.cap_summary.proofs.{inl, nat_tests, Knowing.refused_parts, SortedFound.found_below, SortedFound.rises_again}
-use Rattle.cap_summary.proofs.{inr, arith, eqb-true, eq-eqb, All-head, All-tail, FewAsks.few_asks, FewKeys.few_keys}
-use Rattle.cap_summary.proofs.Naming.{effect_among, asks_among, first_among, second_among}
-use Rattle.std.specs.Prelude.{List, length, Bool, false, cond, Option, Some, None, IfSome, IfNone, is_some, nat_le, All}
-use Rattle.std.specs.Prelude.{◌≡◌, ◌+◌, ◌*◌, ◌<◌, ◌≤◌, ◌⊎◌, ◌∷◌, ◌++◌, ℕ, [], true, eqb, refl}
-use Rattle.std.proofs.{Math.Nat.mul-le-mul_right}
+use Rattle.std.specs.Prelude.{All, Bool, List, None, Some, [], cond, eqb, ℕ, ◌*◌, ◌++◌, ◌+◌, ◌<◌, ◌∷◌, ◌≡◌, ◌≤◌, ◌⊎◌}
+use Rattle.cap_summary.specs.{Preconditions.IsSettled, declared.known.Known.Known, declared.node.Content.Content, false}
+use Rattle.cap_summary.specs.{Content.KeepsParts, RowSizes.CellsRise, RowSizes.rows_size, Step, declared.effect.Row.Row}
+use Rattle.cap_summary.specs.{LineAsks.refused, RowSizes.AllRise, Sorted.KeysRise, Sorted.Rises, Sorted.RisesFrom, refl}
+use Rattle.cap_summary.specs.{IfNone, IfSome, Knows.Knows, Option, Sorted.found, is_some, length, nat_le, true}
+use Rattle.cap_summary.specs.Kept.{IsKept, IsLarge, IsWithin, ListsMany, NameOrRefuseMany, is_one, limit, room, these}
+use Rattle.cap_summary.specs.declared.node.Content.TheVariants.{Both, Run}
+use Rattle.cap_summary.specs.Names.{AreAmong, IsListedWithin, IsRowWithin, ListWithin, RowsWithin, names_in}
+use Rattle.cap_summary.proofs.{Knowing.refused_parts, SortedFound.found_below, SortedFound.rises_again, inl, nat_tests}
+use Rattle.cap_summary.proofs.{All-head, All-tail, FewAsks.few_asks, FewKeys.few_keys, arith, eq-eqb, eqb-true, inr}
+use Rattle.cap_summary.proofs.Naming.{asks_among, effect_among, first_among, second_among}
+use Rattle.std.proofs.Math.Nat.{mul-le-mul_right}
 
 -- ---- rows among these processes, which list these descriptors
 

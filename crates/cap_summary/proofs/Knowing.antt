@@ -1,21 +1,20 @@
 -- What a summary says after one more step, or one more segment.
-use Rattle.cap_machine.specs.{History.turned, Code.Table.step_after}
+use Rattle.std.specs.Prelude.{List, [], false, get_or, if◌then◌else◌, length, map, take, ◌++◌, ◌+◌, ◌<◌, ◌||◌, ◌∷◌, ◌≡◌}
+use Rattle.std.specs.Prelude.{ℕ, ◌≤◌}
+use Rattle.cap_summary.proofs.{LineAsking.has_any-append, checks_in_turn, checks_more, ends_in_turn, length-append, sym}
+use Rattle.cap_summary.proofs.{All-append, All-cons, All-nil, ap, arith, fun_ext, map-append, take_more, ◌∙◌}
+use Rattle.cap_summary.proofs.Naming.{asks_among, effect_among, first_among, second_among}
+use Rattle.cap_machine.specs.{Code.Table.step_after, History.turned}
 use Rattle.cap_machine.proofs.Turns.{ends_more}
-use Rattle.std.specs.Prelude.{◌≡◌, ◌∷◌, ◌++◌, ◌+◌, ◌<◌, ◌||◌, ◌≤◌, if◌then◌else◌, ℕ, List, [], false, length, map}
-use Rattle.std.specs.Prelude.{get_or, take}
-use Rattle.cap_summary.specs.{Rc, values, Step, LineEffect, State, requirement, Turn, kept, stays, touch, turn}
-use Rattle.cap_summary.specs.{effect_touch, effect_turn, touched, ended, check, said, found_at, later, Asks.AreWithin}
-use Rattle.cap_summary.specs.{Composing.IsJoined, Effects.changed, Effects.LineLeaves, Effects.LeavesThenLine}
-use Rattle.cap_summary.specs.{Keys.Cells, Keys.mode_cell, Keys.cells_of, declared.effect.Effect.Effect}
-use Rattle.cap_summary.specs.{declared.key.Key.Key, declared.known.Known.Known, declared.line_asks.LineAsks.LineAsks}
-use Rattle.cap_summary.specs.{declared.precondition.Precondition.Precondition, Knows.Says, Knows.Knows}
-use Rattle.cap_summary.specs.{Knows.StepsLeave, Effects.turned_cell, Effects.line_after, Effects.IsThenLine}
-use Rattle.cap_summary.specs.LineAsks.{is_refusal, refused, asked_holds, asks_in, refusals_in, has_any}
-use Rattle.cap_summary.specs.Names.{Names, names_in, has_cell, AreAmong, EffectWithin, LineWithin, PreWithin}
-use Rattle.cap_summary.specs.Preconditions.{is_met, IsWithMore, IsPossible, asks_size}
-use Rattle.cap_summary.proofs.{sym, ap, ◌∙◌, arith, length-append, map-append, take_more, All-nil, All-cons, All-append}
-use Rattle.cap_summary.proofs.{fun_ext, ends_in_turn, checks_in_turn, checks_more, LineAsking.has_any-append}
-use Rattle.cap_summary.proofs.Naming.{effect_among, asks_among, first_among, second_among}
+use Rattle.cap_summary.specs.{Rc, declared.line_asks.LineAsks.LineAsks, declared.precondition.Precondition.Precondition}
+use Rattle.cap_summary.specs.{declared.effect.Effect.Effect, declared.key.Key.Key, declared.known.Known.Known, found_at}
+use Rattle.cap_summary.specs.{Asks.AreWithin, Composing.IsJoined, Keys.cells_of, Keys.mode_cell, Knows.StepsLeave, Step}
+use Rattle.cap_summary.specs.{Keys.Cells, Knows.Knows, Knows.Says, LineEffect, effect_touch, effect_turn, requirement}
+use Rattle.cap_summary.specs.{State, Turn, check, ended, kept, later, said, stays, touch, touched, turn, values}
+use Rattle.cap_summary.specs.Names.{AreAmong, EffectWithin, LineWithin, Names, has_cell, names_in}
+use Rattle.cap_summary.specs.Effects.{IsThenLine, LeavesThenLine, LineLeaves, changed, line_after, turned_cell}
+use Rattle.cap_summary.specs.LineAsks.{asked_holds, asks_in, has_any, is_refusal, refusals_in, refused}
+use Rattle.cap_summary.specs.Preconditions.{AllSaid, IfNamed, IsWithMore, Open, Saying, Within, asks_size, is_met}
 
 -- one more item of a run
 pub one_more : {X Z : Type 0} (run : List (Rc X Z)) (i : ℕ) (x : Rc X Z) → i < length run → x ≡ get_or run i x
@@ -47,16 +46,15 @@ both_leave t u p (Key.Fd f) first second = All-append (λ (step : Step). touch s
 
 pub says_none : (effect : Effect) (pre : Precondition)
     → ((cells : Cells) (p : ℕ) (k : Key) → changed effect cells p k ≡ cells p k)
-    → ((s : State) → is_met (cells_of s) pre ≡ false) → IsPossible pre
-    → ((names : Names) → EffectWithin names effect) → ((names : Names) → PreWithin names pre) → asks_size pre ≡ 0
-    → Says effect pre []
-says_none effect pre same never possible effects asks nothing = record {
+    → ((s : State) → is_met (cells_of s) pre ≡ false) → ((said : Saying) → AllSaid said pre)
+    → ((names : Names) → EffectWithin names effect) → asks_size pre ≡ 0 → Says effect pre []
+says_none effect pre same never each effects nothing = record {
   after = λ s p k. same (cells_of s) p k;
   left = λ p k is. none_touch p k;
   finds = never;
-  possible = possible;
+  possible = each Open;
   effect_named = effects (names_in []);
-  asks_named = asks (names_in []);
+  asks_named = each (Within (names_in []));
   few = omega (arith, nothing);
   refusals = omega (arith, nothing);
 }
@@ -68,21 +66,21 @@ knows_both a b both t u first second joined = record {
       ∙ ap (λ (cells : Cells). changed b.effect.value cells p k) (between s)
       ∙ second.after (ended s t) p k
       ∙ ap (λ (state : State). cells_of state p k) (sym (ends_in_turn s t u));
-  finds = λ s. joined.precondition.met s
+  finds = λ s. joined.precondition.with.met s
       ∙ ap (λ (cells : Cells). is_met (cells_of s) a.precondition.value || is_met cells b.precondition.value) (between s)
       ∙ ap (λ r. r || is_met (cells_of (ended s t)) b.precondition.value) (first.finds s)
       ∙ ap (λ r. has_any (check s t) || r) (second.finds (ended s t))
       ∙ sym (found s);
-  possible = joined.precondition.possible first.possible second.possible;
+  possible = joined.precondition.with.each Open tt second.possible first.possible;
   left = λ p k is. both_leave t u p k (first.left p k ((joined.effect.rows p).leaves k is).0)
       (second.left p k ((joined.effect.rows p).leaves k is).1);
   effect_named = λ p. (joined.effect.rows p).names (names_in (t ++ u)) (names_in (t ++ u)) (λ q is. effect q) (effect p)
       (second_effect p) (second_effect p);
-  asks_named = joined.precondition.names (names_in (t ++ u)) effect
-      (asks_among (names_in t) (names_in (t ++ u)) front a.precondition.value first.asks_named)
-      (asks_among (names_in u) (names_in (t ++ u)) beyond b.precondition.value second.asks_named);
-  few = omega (arith, joined.precondition.few, first.few, second.few, length-append t u);
-  refusals = omega (arith, joined.precondition.refusals, first.refusals, second.refusals, refused_parts t u);
+  asks_named = joined.precondition.with.each (Within (names_in (t ++ u))) effect
+      (asks_among (names_in u) (names_in (t ++ u)) beyond b.precondition.value second.asks_named)
+      (asks_among (names_in t) (names_in (t ++ u)) front a.precondition.value first.asks_named);
+  few = omega (arith, joined.precondition.with.few, first.few, second.few, length-append t u);
+  refusals = omega (arith, joined.precondition.with.refusals, first.refusals, second.refusals, refused_parts t u);
 }
   where
     front : AreAmong (names_in t) (names_in (t ++ u))
@@ -108,16 +106,15 @@ knows_both a b both t u first second joined = record {
 -- another precondition that holds in the same states
 pub says_same : (effect : Effect) (pre new : Precondition) (t : List Step) → Says effect pre t
     → ((s : State) → is_met (cells_of s) new ≡ is_met (cells_of s) pre)
-    → (IsPossible pre → IsPossible new)
-    → ((names : Names) → PreWithin names pre → PreWithin names new)
+    → ((said : Saying) → AllSaid said pre → AllSaid said new)
     → asks_size new ≤ asks_size pre → length new.refusals.items ≤ length pre.refusals.items → Says effect new t
-says_same effect pre new t says met possible asks few refusals = record {
+says_same effect pre new t says met each few refusals = record {
   after = says.after;
   finds = λ s. met s ∙ says.finds s;
   left = says.left;
-  possible = possible says.possible;
+  possible = each Open says.possible;
   effect_named = says.effect_named;
-  asks_named = asks (names_in t) says.asks_named;
+  asks_named = each (Within (names_in t)) says.asks_named;
   few = omega (arith, few, says.few);
   refusals = omega (arith, refusals, says.refusals);
 }
@@ -149,8 +146,8 @@ module _ (step : Step) (line : LineEffect) (me : ℕ) (cells : (p f : ℕ) → e
 
   pub says_more : (effect new : Effect) (pre more : Precondition) (asks : LineAsks) (t : List Step)
       → Says effect pre t → IsThenLine effect line me new → LeavesThenLine effect line me new
-      → IsWithMore effect (λ cells. asked_holds cells asks) (λ names. AreWithin (has_cell names) (asks_in asks)) 3
-      (refusals_in asks) pre more → ((s : State) → asked_holds (cells_of s) asks ≡ has_any (said step s))
+      → IsWithMore effect (λ cells. asked_holds cells asks)
+      (IfNamed (λ names. AreWithin (has_cell names) (asks_in asks))) 3 (refusals_in asks) pre more → ((s : State) → asked_holds (cells_of s) asks ≡ has_any (said step s))
       → ((names : Names) → LineWithin names me line → EffectWithin names effect → EffectWithin names new)
       → LineWithin (names_in (t ++ step ∷ [])) me line
       → AreWithin (has_cell (names_in (t ++ step ∷ []))) (asks_in asks)
@@ -162,11 +159,11 @@ module _ (step : Step) (line : LineEffect) (me : ℕ) (cells : (p f : ℕ) → e
         ∙ ap (λ r. r || asked_holds (cells_of (ended s t)) asks) (so_far.finds s)
         ∙ ap (λ r. has_any (check s t) || r) (says (ended s t))
         ∙ sym (found s);
-    possible = with.possible so_far.possible;
+    possible = with.each Open tt tt so_far.possible;
     left = λ p k is. both_leave t (step ∷ []) p k (so_far.left p k (leaves p k is).0) (step_leaves p k (leaves p k is).1);
     effect_named = effects (names_in (t ++ step ∷ [])) line_named named;
-    asks_named = with.names (names_in (t ++ step ∷ [])) named asks_named (asks_among (names_in t) (names_in (t ++ step ∷
-        [])) front pre so_far.asks_named);
+    asks_named = with.each (Within (names_in (t ++ step ∷ []))) named asks_named
+        (asks_among (names_in t) (names_in (t ++ step ∷ [])) front pre so_far.asks_named);
     few = omega (arith, with.few, so_far.few, length-append t (step ∷ []));
     refusals = omega (arith, with.refusals, one, so_far.refusals, refused_parts t (step ∷ []));
   }

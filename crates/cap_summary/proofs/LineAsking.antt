@@ -1,12 +1,12 @@
 -- What one line asks, and where something is said of it.
-use Rattle.std.specs.Prelude.{◌≡◌, ◌∷◌, ◌++◌, ◌&&◌, ◌||◌, ℕ, List, [], Bool, true, false, cond, refl, not, map}
+use Rattle.std.specs.Prelude.{◌≡◌, ◌∷◌, ◌++◌, ◌&&◌, ◌||◌, List, [], Bool, true, false, cond, refl, not, map}
 use Rattle.cap_machine.specs.{declared.rule.Class.Class, Judge.forbidden, Judge.is_excused, Judge.is_forbidden, Judge.judged}
 use Rattle.cap_machine.specs.{declared.verdict.Finding.TheVariants.Refusal}
 use Rattle.cap_summary.specs.{list_any, Cell, LimitWord, Check, Checks, Requirement, NotCapable, listed, all_excused, has_check, fault, faults, Mode}
 use Rattle.cap_summary.specs.{is_outside, Keys.mode_cell, LineAsks.has_any, Tests.has_kind}
 use Rattle.cap_summary.specs.declared.kinds.TheConstants.Kinds.{CLOSED, UNHELD}
-use Rattle.cap_summary.specs.{Asks.AskWithin, Names.Names, Names.has_cell, declared.ask.Ask.Ask, declared.key.Key.Key}
-use Rattle.cap_summary.proofs.{arith, sym, and_from, list_any-append}
+use Rattle.cap_summary.specs.{Names.Names, Names.ChecksWithin}
+use Rattle.cap_summary.proofs.{arith, sym}
 
 pub has_any-append : {X : Type 0} (xs ys : List X) → has_any (xs ++ ys) ≡ (has_any xs || has_any ys)
 has_any-append xs ys = grind arith
@@ -58,15 +58,15 @@ refusal_found d m cell refused some =
     by at outside excused = grind arith
 
 -- ---- the asks of a mode, and then of the checks
-pub one_put : {X : Type 0} (p : X → Bool) (xs : List X) (x : X) (b : Bool) → p x ≡ b
-    → list_any p (xs ++ x ∷ []) ≡ (list_any p xs || (b || false))
-one_put p xs x b is = grind (arith, list_any-append p xs (x ∷ []), is)
+pub one_lacked : (p : Check → Bool) (checks : Checks) (a : Check) (mode all ask : Bool) → checks ≡ Checks.One a
+    → all ≡ (mode || ask) → ask ≡ p a → all ≡ (mode || list_any p (listed checks))
+one_lacked p checks a mode all ask is put asks = rw (is, put, asks) (grind arith)
 
-pub two_put : {X : Type 0} (p : X → Bool) (xs : List X) (x y : X) (b c : Bool) → p x ≡ b → p y ≡ c
-    → list_any p ((xs ++ x ∷ []) ++ y ∷ []) ≡ (list_any p xs || (b || (c || false)))
-two_put p xs x y b c is at = grind (arith, list_any-append p (xs ++ x ∷ []) (y ∷ []), one_put p xs x b is, at)
+pub two_lacked : (p : Check → Bool) (checks : Checks) (a b : Check) (mode most all ask next : Bool)
+    → checks ≡ Checks.Two a b → most ≡ (mode || ask) → all ≡ (most || next) → ask ≡ p a → next ≡ p b
+    → all ≡ (mode || list_any p (listed checks))
+two_lacked p checks a b mode most all ask next is put then asks more = rw (is, then, put, asks, more) (grind arith)
 
--- the cell of a check
-pub check_within : (names : Names) (me f : ℕ) (ask : Ask) → names.pids me ≡ true → names.fds f ≡ true
-    → (ask.pid ≡ me) × (ask.key ≡ Key.Fd f) → AskWithin (has_cell names) ask
-check_within names me f ask own fd cell = rw (cell.0, cell.1) (and_from (names.pids me) (names.fds f) own fd)
+pub both_within : (names : Names) (checks : Checks) (a b : Check) → checks ≡ Checks.Two a b → ChecksWithin names checks
+    → (names.fds a.fd ≡ true) × (names.fds b.fd ≡ true)
+both_within names checks a b is all = let each = rw is at all in (each 0 a (omega arith), each 1 a (omega arith))

@@ -1,15 +1,13 @@
 -- What one line lists, that the line names it, and a cell that is set in place.
-use Rattle.std.specs.Prelude.{◌≡◌, ◌+◌, ◌<◌, ◌||◌, ℕ, eqb, List, Bool, true, false, cond, Option, Some, length}
-use Rattle.std.specs.Prelude.{get_or, take, refl, ◌==◌, ◌∷◌, [], IfSome, All, ◌&&◌, None, unwrap_or}
-use Rattle.cap_summary.specs.{option_map_or, list_any, all, Unsure, Closed, Outside, LineEffect, fds_spelled}
-use Rattle.cap_summary.specs.{Keys.mode_cell, declared.base.Base.Base}
-use Rattle.cap_summary.specs.{declared.value.Value.Value, declared.key.Key.Key, Cell, declared.effect.Effect.Effect}
-use Rattle.cap_summary.specs.{declared.effect.Row.Row, Keys.Cells, Sorted.found, Values.read}
-use Rattle.cap_summary.specs.Names.{Names, IsListedWithin, RowWithin, RowsWithin, IsRowWithin}
-use Rattle.cap_summary.specs.{Names.EffectWithin}
-use Rattle.cap_summary.specs.Effects.{own_row, base_cell, row_cell, cell_in, changed, IsStarted, line_after, is_cell}
-use Rattle.cap_summary.proofs.{Bor, list_any_more, or-false, or-true, eq-eqb, sym, subst, eqb-true}
-use Rattle.cap_summary.proofs.{All-head, All-tail, ap, ◌∙◌}
+use Rattle.std.specs.Prelude.{All, Bool, IfSome, List, None, Option, Some, cond, false, get_or, length, refl, unwrap_or}
+use Rattle.std.specs.Prelude.{[], eqb, take, true, ℕ, ◌&&◌, ◌+◌, ◌<◌, ◌==◌, ◌||◌, ◌∷◌, ◌≡◌}
+use Rattle.cap_summary.proofs.{All-head, All-tail, Bor, eq-eqb, eqb-true, list_any_more, or-false, or-true, subst, sym}
+use Rattle.cap_summary.proofs.{ap, ◌∙◌}
+use Rattle.cap_summary.specs.{Cell, declared.base.Base.Base, declared.effect.Effect.Effect, declared.value.Value.Value}
+use Rattle.cap_summary.specs.{Keys.mode_cell, Values.read, declared.effect.Row.Row, declared.key.Key.Key, option_map_or}
+use Rattle.cap_summary.specs.{Closed, Keys.Cells, LineEffect, Outside, Sorted.found, Unsure, all, fds_spelled, list_any}
+use Rattle.cap_summary.specs.Names.{EffectWithin, IsListedWithin, IsRowWithin, Names, RowWithin, RowsWithin}
+use Rattle.cap_summary.specs.Effects.{IsStarted, base_cell, cell_in, changed, is_cell, line_after, own_row, row_cell}
 
 one_more : (cells : Cells) (v : Value) (b any : Bool) (o : Option Value)
     → option_map_or (read cells) o Closed ≡ cond any (read cells v) Closed

@@ -1,20 +1,22 @@
 -- The descriptors that the effect of a line has one by one stand in the line.
-use Rattle.cap_summary.specs.{fds_spelled, ResultKind, LineEffect, effect_touch, Names.answers_fd, Names.line_names_fd}
-use Rattle.cap_summary.specs.{list_any, Answer, Count, FdPair, kind_of, Unknown, Touch, given, taken, started, fds_of}
-use Rattle.cap_summary.specs.{Item, Fd, Same, Cell, Op, Step, same, kept, touch}
-use Rattle.cap_summary.proofs.{sym, ap, ◌∙◌, arith, ne_eqb, eq-eqb, or_left, or_right, or-false, common_steps, All-nil, All-cons}
-use Rattle.cap_machine.specs.{Named.arg_names, Named.answer_names, Named.is_fork, declared.cell.Profile.Profile}
-use Rattle.cap_machine.specs.Touch.{fd_touch, path_touch, bare_touch, call_touch, pdfork_touch}
+use Rattle.cap_summary.proofs.{All-cons, All-nil, arith, common_steps, eq-eqb, ne_eqb, or-false, or_left, or_right, sym}
+use Rattle.cap_summary.proofs.{ap, ◌∙◌}
+use Rattle.std.specs.Prelude.{All, Bool, [], bytes_eq, codes, cond, false, refl, slice_index_or, true, ◌&&◌, ◌==◌, ◌||◌}
+use Rattle.std.specs.Prelude.{not, suc, ℕ, ◌+◌, ◌∷◌, ◌≡◌}
+use Rattle.cap_summary.specs.{LineEffect, Names.answers_fd, Names.line_names_fd, ResultKind, effect_touch, fds_spelled}
+use Rattle.cap_summary.specs.{Answer, Count, FdPair, Touch, Unknown, fds_of, given, kind_of, list_any, started, taken}
+use Rattle.cap_summary.specs.{Cell, Fd, Item, Op, Same, Step, kept, same, touch}
+use Rattle.cap_machine.specs.{Named.answer_names, Named.arg_names, Named.is_fork, declared.cell.Profile.Profile}
+use Rattle.cap_machine.specs.Touch.{bare_touch, call_touch, fd_touch, path_touch, pdfork_touch}
 use Rattle.cap_machine.specs.declared.cell.Profile.TheVariants.{One, Two}
-use Rattle.cap_machine.proofs.{NamedFds.named_effects}
-use Rattle.cap_trace.specs.{declared.calls.AtFlagsCall.TheVariants.Openat, declared.calls.PathCall.TheVariants.Execve}
-use Rattle.cap_trace.specs.{Entry.args_of_call, declared.calls.BareCall.BareCall, declared.calls.PathCall.PathCall}
-use Rattle.cap_trace.specs.{Call.Call, declared.calls.FdCall.FdCall}
-use Rattle.cap_trace.specs.declared.calls.BareCall.TheVariants.{Pipe, Fork, Vfork, Pdfork, CapEnter}
+use Rattle.cap_machine.proofs.NamedFds.{named_effects}
+use Rattle.cap_trace.specs.{declared.calls.AtFlagsCall.TheVariants.Openat, declared.calls.BareCall.TheVariants.CapEnter}
+use Rattle.cap_trace.specs.{declared.calls.BareCall.TheVariants.Pdfork, declared.calls.PathCall.TheVariants.Execve}
+use Rattle.cap_trace.specs.{declared.calls.BareCall.TheVariants.Fork, declared.calls.BareCall.TheVariants.Vfork}
+use Rattle.cap_trace.specs.{Call.Call, declared.calls.BareCall.BareCall, declared.calls.BareCall.TheVariants.Pipe}
+use Rattle.cap_trace.specs.{Entry.args_of_call, declared.calls.FdCall.FdCall, declared.calls.PathCall.PathCall}
 use Rattle.cap_trace.specs.declared.calls.FdCall.TheVariants.{Accept, Closefrom, Dup}
-use Rattle.cap_trace.specs.declared.calls.FlagsCall.TheVariants.{Socket, Socketpair, Pipe2}
-use Rattle.std.specs.Prelude.{codes, bytes_eq, ◌==◌, ◌&&◌, ◌||◌, Bool, true, false, cond, [], refl, slice_index_or, All}
-use Rattle.std.specs.Prelude.{◌≡◌, ◌+◌, ◌∷◌, ℕ, suc, not}
+use Rattle.cap_trace.specs.declared.calls.FlagsCall.TheVariants.{Pipe2, Socket, Socketpair}
 
 by_cases : {X : Type 0} (b : Bool) → (b ≡ true → X) → (b ≡ false → X) → X
 by_cases true one other = one refl

@@ -1,11 +1,11 @@
 -- The cells after a line, by the rows of the processes that it touches.
-use Rattle.cap_summary.specs.{declared.effect.Effect.Effect, declared.effect.Row.Row, declared.key.Key.Key, Effects.IsPut}
-use Rattle.cap_summary.specs.{Effects.turned_cell, Effects.line_after, Effects.is_touched, is_child, Sorted.found}
-use Rattle.cap_summary.specs.{Unknown, Closed, LineEffect, applied, follows, Keys.Cells, Effects.LeavesPut}
-use Rattle.cap_summary.specs.{Set, Clear, Unsure, Cell, Held, same, kept, given, taken, stays, touched}
-use Rattle.cap_summary.specs.Effects.{row_cell, changed, row_leaves, leaves, leaves_in, LineLeaves, cell_in}
-use Rattle.cap_summary.proofs.{sym, ap, ◌∙◌, inl, inr, subst, eqb-true, eq-eqb, or-false, Bools.or_right}
-use Rattle.std.specs.Prelude.{◌≡◌, ◌==◌, ◌||◌, ℕ, Bool, true, false, cond, refl, List}
+use Rattle.cap_summary.proofs.{Bools.or_right, ap, eq-eqb, eqb-true, inl, inr, or-false, subst, sym, ◌∙◌}
+use Rattle.std.specs.Prelude.{Bool, List, cond, false, refl, true, ℕ, ◌==◌, ◌||◌, ◌≡◌}
+use Rattle.cap_summary.specs.{Keys.Cells, declared.effect.Effect.Effect, declared.effect.Row.Row, declared.key.Key.Key}
+use Rattle.cap_summary.specs.{Closed, LineEffect, Sorted.found, Unknown, Unsure, applied, follows, is_child, touched}
+use Rattle.cap_summary.specs.{Cell, Clear, Held, Set, given, kept, same, stays, taken}
+use Rattle.cap_summary.specs.Effects.{LeavesPut, LineLeaves, is_touched, leaves_in, line_after, row_leaves, turned_cell}
+use Rattle.cap_summary.specs.Effects.{IsPut, cell_in, changed, leaves, row_cell}
 
 -- ---- a process that isn't touched keeps its cells
 untouched_left : (line : LineEffect) (me p : ℕ) → is_touched line me p ≡ false → (k : Key) → LineLeaves line me p k

@@ -1,17 +1,17 @@
 -- What is named by some lines is named by more.
+use Rattle.std.specs.Prelude.{Bool, List, None, Some, [], ℕ, ◌++◌, ◌==◌, ◌∷◌, ◌≡◌}
+use Rattle.cap_summary.proofs.{Bools.and_left, and_from, eq-eqb, list_any-append, or-true, ◌∙◌}
 use Rattle.cap_summary.specs.{declared.base.DefaultCells.DefaultCells, declared.precondition.Precondition.Precondition}
-use Rattle.cap_summary.specs.{declared.effect.Effect.Effect, declared.effect.Row.Row, declared.value.Value.Value}
-use Rattle.cap_summary.specs.{given, effect_touch, requirement, Sorted.found, Values.reads_within, declared.key.Key.Key}
-use Rattle.cap_summary.specs.{list_any, Step, LineEffect, Unknown, same, kept, taken, touch, names_pid, args_name}
-use Rattle.cap_summary.specs.Names.{line_names_fd, item_answers_fd, Names, IsListedWithin, others_within, DemandWithin}
-use Rattle.cap_summary.specs.Names.{has_key, mode_within, IsRowWithin, EffectWithin, ChildWithin, LineWithin, PreWithin}
-use Rattle.cap_summary.specs.Names.{names_in, AreAmong, has_cell, RowWithin}
-use Rattle.cap_summary.proofs.{or_left as or_first, or_right as or_second, Bools.and_right, LineNamed.named_one_by_one}
-use Rattle.cap_summary.proofs.{◌∙◌, or-true, and_from, eq-eqb, list_any-append, Bools.and_left}
+use Rattle.cap_summary.specs.{declared.effect.Effect.Effect, declared.effect.Row.Row, declared.value.Value.Value, false}
+use Rattle.cap_summary.specs.{Preconditions.AllSaid, Preconditions.Within, Values.reads_within, declared.key.Key.Key}
+use Rattle.cap_summary.specs.{LineEffect, Sorted.found, Step, args_name, effect_touch, list_any, names_pid, requirement}
+use Rattle.cap_summary.specs.{IfSome, Option, Unknown, cond, given, kept, refl, same, taken, touch, true}
+use Rattle.cap_summary.specs.Names.{DemandWithin, IsListedWithin, Names, item_answers_fd, line_names_fd, others_within}
+use Rattle.cap_summary.specs.Names.{ChildWithin, EffectWithin, IsRowWithin, LineWithin, RowWithin, has_key, mode_within}
+use Rattle.cap_summary.specs.Names.{AreAmong, has_cell, names_in}
 use Rattle.cap_machine.proofs.{NamedFds.named_checks, Naming.own_processes}
-use Rattle.std.specs.Prelude.{◌==◌, ◌++◌, Bool, true, false, List, Option, Some, None, refl, cond, IfSome}
-use Rattle.std.specs.Prelude.{◌≡◌, ◌∷◌, ℕ, []}
-use Rattle.std.proofs.{lemmas.Bool.true_from_ne_false}
+use Rattle.std.proofs.lemmas.Bool.{true_from_ne_false}
+use Rattle.cap_summary.proofs.{or_left as or_first, or_right as or_second, Bools.and_right, LineNamed.named_one_by_one}
 
 module _ (a b : Names) (among : AreAmong a b) where
   key_among : (k : Key) → has_key a k ≡ true → has_key b k ≡ true
@@ -55,7 +55,7 @@ module _ (a b : Names) (among : AreAmong a b) where
   pub effect_among : (effect : Effect) → EffectWithin a effect → EffectWithin b effect
   effect_among effect is p = row_at_among p (found effect.rows p) (is p)
 
-  pub asks_among : (pre : Precondition) → PreWithin a pre → PreWithin b pre
+  pub asks_among : (pre : Precondition) → AllSaid (Within a) pre → AllSaid (Within b) pre
   asks_among pre is = record {
     asks = λ k d lt. cell_among _ _ (is.asks k d lt);
     refusals = λ k d lt j e more. cell_among _ _ (is.refusals k d lt j e more);

@@ -1,13 +1,13 @@
 -- A row that reads its own process alone, after a segment that leaves that process.
-use Rattle.std.specs.Prelude.{◌≡◌, ◌==◌, ◌∷◌, ℕ, Bool, true, false, List, [], cond, Option, Some, None, refl, IfSome, option_copied}
-use Rattle.cap_summary.specs.{list_all, option_map_or, Cell, Closed, applied, Composing.IsComposedSo, Keys.Cells, Sorted.found}
-use Rattle.cap_summary.specs.{declared.base.DefaultCells.DefaultCells, declared.effect.Effect.Effect}
-use Rattle.cap_summary.specs.{declared.effect.Row.Row, declared.key.Key.Key, declared.value.Value.Value}
-use Rattle.cap_summary.specs.Effects.{passed, is_from, others_cell, base_cell, row_cell, cell_in, changed}
-use Rattle.cap_summary.specs.Names.{only, has_cell, has_key, others_within, mode_within, IsListedWithin, ListWithin}
-use Rattle.cap_summary.specs.Names.{RowWithin}
-use Rattle.cap_summary.specs.Values.{read, reads_within}
-use Rattle.cap_summary.proofs.{Bor, ap, sym, ◌∙◌, eqb-true, eq-eqb, Bools.and_left, Bools.and_right}
+use Rattle.std.specs.Prelude.{Bool, IfSome, List, None, Option, Some, cond, false, option_copied, refl, true, ◌==◌, ◌∷◌}
+use Rattle.std.specs.Prelude.{[], ℕ, ◌≡◌}
+use Rattle.cap_summary.proofs.{Bools.and_left, Bools.and_right, Bor, ap, eq-eqb, eqb-true, sym, ◌∙◌}
+use Rattle.cap_summary.specs.{Names.mode_within, declared.base.DefaultCells.DefaultCells, declared.effect.Effect.Effect}
+use Rattle.cap_summary.specs.{Composing.IsComposedSo, Sorted.found, declared.effect.Row.Row, declared.value.Value.Value}
+use Rattle.cap_summary.specs.{Names.IsListedWithin, Names.others_within, Values.reads_within, declared.key.Key.Key}
+use Rattle.cap_summary.specs.{Names.ListWithin, Names.RowWithin, Names.has_cell, Names.has_key, list_all, option_map_or}
+use Rattle.cap_summary.specs.{Cell, Closed, Keys.Cells, Names.only, Values.read, applied}
+use Rattle.cap_summary.specs.Effects.{base_cell, cell_in, changed, is_from, others_cell, passed, row_cell}
 
 -- values that each read one process alone, listed for some descriptors
 pub list_only : (p : ℕ) (entries : List (ℕ × Value))

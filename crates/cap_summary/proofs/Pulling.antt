@@ -1,18 +1,17 @@
 -- Asks of a later segment, pulled back through the effect of a first one.
-use Rattle.std.specs.declared.vec.Vec.{Vec}
-use Rattle.std.specs.Prelude.{◌≡◌, ◌∷◌, ◌++◌, ◌||◌, ◌+◌, ◌<◌, List, [], true, false, ℕ, length, get_or, take, drop}
-use Rattle.std.specs.Prelude.{refl, All, Option, Some, None}
-use Rattle.cap_summary.specs.{list_any, State, Global, Keys.Cells, Keys.cells_of, Sorted.found, declared.ask.Ask.Ask}
-use Rattle.cap_summary.specs.{declared.effect.Effect.Effect, declared.effect.Row.Row, declared.key.Key.Key}
+use Rattle.std.specs.Prelude.{All, List, None, Option, Some, drop, false, get_or, length, refl, take, true, ◌++◌, ◌||◌}
+use Rattle.std.specs.Prelude.{[], ℕ, ◌+◌, ◌<◌, ◌∷◌, ◌≡◌}
+use Rattle.cap_summary.proofs.{All-append, All-head, All-push, length-append, list_any-append, or-false, sym, take_more}
+use Rattle.cap_summary.proofs.{ap, arith, subst, ◌∙◌}
+use Rattle.cap_summary.proofs.Uniting.{all_left, all_right, drop_here, rises_put, rises_without}
 use Rattle.cap_summary.specs.{declared.precondition.Precondition.Precondition, declared.up_to_three.UpToThree.UpToThree}
-use Rattle.cap_summary.specs.Effects.{row_leaves, row_cell, changed}
-use Rattle.cap_summary.specs.Asks.{place, holds, any_holds, IsOpen, AskWithin, Rises, IsUnionOf, IsUnion, Within, Open}
-use Rattle.cap_summary.specs.Names.{Names, has_cell, EffectWithin, RefusalsWithin, PreWithin}
-use Rattle.cap_summary.specs.Preconditions.{is_met, is_wrongful, IsPulledBack, AreAskedByBoth, IsAskedByOne}
-use Rattle.cap_summary.specs.Preconditions.{IsAskedByBoth, IsPossible, IsSettled, IsWithMore, asks_size}
-use Rattle.cap_summary.proofs.{sym, ap, ◌∙◌, subst, arith, length-append, take_more, list_any-append, All-push}
-use Rattle.cap_summary.proofs.{All-head, or-false, or_comm}
-use Rattle.cap_summary.proofs.Uniting.{all_left, all_right, rises_put, rises_without, drop_here}
+use Rattle.cap_summary.specs.{Asks.IsOpen, declared.ask.Ask.Ask, declared.effect.Effect.Effect, declared.effect.Row.Row}
+use Rattle.cap_summary.specs.{Effects.row_cell, Effects.row_leaves, Names.EffectWithin, declared.key.Key.Key, list_any}
+use Rattle.cap_summary.specs.{Asks.AskWithin, Asks.any_holds, Effects.changed, Global, Keys.cells_of, Names.has_cell}
+use Rattle.cap_summary.specs.{Asks.Rises, Asks.holds, Asks.place, Keys.Cells, Names.Names, Sorted.found, State, Vec}
+use Rattle.cap_summary.specs.Preconditions.{AreAskedByBoth, ArePulledBack, IsAskedByBoth, IsPulledBack, IsRefusalSaid}
+use Rattle.cap_summary.specs.Preconditions.{AllSaid, IfNamed, IsSettled, IsUnion, IsWithMore, asks_size, is_wrongful}
+use Rattle.cap_summary.specs.Preconditions.{IsSaid, Open, Saying, Within, is_met}
 
 -- ---- a cell that the first segment leaves
 pub row_left : (cells : Cells) (p : ℕ) (row : Row) (k : Key) → row_leaves row k ≡ true → row_cell cells p row k ≡ cells p k
@@ -31,18 +30,17 @@ module _ (asks kept : List Ask) (i : ℕ) (ask : Ask) (within : i < length asks)
   pub kept_more : (before : Ask) → place before ≡ place ask → Rises ((kept ++ before ∷ []) ++ drop (i + 1) asks)
   kept_more before same = rises_put 0 kept (drop (i + 1) asks) ask before same whole
 
--- ---- the row that a process has
-pub pulled_none : (first : Effect) (kept moved : List Ask) → kept ≡ [] → moved ≡ [] → IsPulledBack first [] kept moved
-pulled_none first kept moved near far = record {
-  holds = λ s. rw (near, far) refl;
-  can = λ all. (rw near all, rw far all);
-  names = λ names effect all. (rw near all, rw far all);
-  few = rw (near, far) (omega arith);
+-- ---- none so far
+pub pulled_none : (first : Effect) (back : List Ask) → back ≡ [] → IsPulledBack first [] back
+pulled_none first back none = record {
+  holds = λ s. rw none refl;
+  each = λ said effect all. rw none all;
+  few = rw none (omega arith);
 }
 
 -- ---- one more
-module _ (first : Effect) (asks : List Ask) (i : ℕ) (ask : Ask) (kept moved : List Ask) (within : i < length asks)
-    (is : ask ≡ get_or asks i ask) (so_far : IsPulledBack first (take i asks) kept moved) where
+module _ (first : Effect) (asks : List Ask) (i : ℕ) (ask : Ask) (front rest : List Ask) (within : i < length asks)
+    (is : ask ≡ get_or asks i ask) (so_far : IsPulledBack first (take i asks) (front ++ rest)) where
   one_more : take (i + 1) asks ≡ take i asks ++ ask ∷ []
   one_more = take_more asks i ask within ∙ ap (λ (x : Ask). take i asks ++ x ∷ []) (sym is)
 
@@ -60,11 +58,10 @@ module _ (first : Effect) (asks : List Ask) (i : ℕ) (ask : Ask) (kept moved : 
 
   -- one more, which holds in no state
   pub pulled_never : ((s : State) → holds (changed first (cells_of s)) ask ≡ false)
-      → IsPulledBack first (take (i + 1) asks) kept moved
+      → IsPulledBack first (take (i + 1) asks) (front ++ rest)
   pulled_never never = record {
     holds = λ s. rw (met_more (changed first (cells_of s)), never s, ← so_far.holds s) (grind arith);
-    can = λ all. so_far.can (parts IsOpen all).0;
-    names = λ names effect all. so_far.names names effect (parts (AskWithin (has_cell names)) all).0;
+    each = λ said effect all. so_far.each said effect (parts (IsSaid said) all).0;
     few = omega (arith, counted, so_far.few);
   }
 
@@ -73,100 +70,101 @@ module _ (first : Effect) (asks : List Ask) (i : ℕ) (ask : Ask) (kept moved : 
       (same : (s : State) → holds (cells_of s) before ≡ holds (changed first (cells_of s)) ask)
       (named : (names : Names) → EffectWithin names first → AskWithin (has_cell names) ask
       → AskWithin (has_cell names) before) where
-    pub pulled_kept : IsPulledBack first (take (i + 1) asks) (kept ++ before ∷ []) moved
-    pulled_kept = record {
+    turned : (said : Saying) → IfNamed (λ names. EffectWithin names first) said → IsSaid said ask → IsSaid said before
+    turned (Within names) effect is = named names effect is
+    turned Open effect is = can is
+
+    pub pulled_put : IsPulledBack first (take (i + 1) asks) ((front ++ before ∷ []) ++ rest)
+    pulled_put = record {
       holds = λ s. rw (
         met_more (changed first (cells_of s)),
-        list_any-append (holds (cells_of s)) kept (before ∷ []),
+        list_any-append (holds (cells_of s)) (front ++ before ∷ []) rest,
+        list_any-append (holds (cells_of s)) front (before ∷ []),
         ← so_far.holds s,
+        list_any-append (holds (cells_of s)) front rest,
         ← same s,
       ) (grind arith);
-      can = λ all.
-          let two = parts IsOpen all in
-          let old = so_far.can two.0 in
-          (All-push IsOpen kept before old.0 (can two.1), old.1);
-      names = λ names effect all.
-          let two = parts (AskWithin (has_cell names)) all in
-          let old = so_far.names names effect two.0 in
-          (All-push (AskWithin (has_cell names)) kept before old.0 (named names effect two.1), old.1);
-      few = omega (arith, counted, so_far.few, length-append kept (before ∷ []));
+      each = λ said effect all.
+          let two = parts (IsSaid said) all in
+          let old = so_far.each said effect two.0 in
+          All-append (IsSaid said) (front ++ before ∷ []) rest (All-push (IsSaid said) front before
+          (all_left (IsSaid said) front rest old) (turned said effect two.1)) (all_right (IsSaid said) front rest old);
+      few = omega (arith, counted, so_far.few, length-append {A = Ask});
     }
 
--- the two lists change places
-pub swapped : (first : Effect) (later kept moved : List Ask) → IsPulledBack first later kept moved
-    → IsPulledBack first later moved kept
-swapped first later kept moved back = record {
-  holds = λ s. or_comm (any_holds (cells_of s) moved) (any_holds (cells_of s) kept) ∙ back.holds s;
-  can = λ all. let two = back.can all in (two.1, two.0);
-  names = λ names effect all. let two = back.names names effect all in (two.1, two.0);
-  few = omega (arith, back.few);
-}
-
 -- ---- the asks of both segments
-pub asked_by_both : (first : Effect) (own later kept moved united both : List Ask)
-    → IsPulledBack first later kept moved → IsUnionOf kept moved united → IsUnionOf own united both
-    → AreAskedByBoth first own later both
-asked_by_both first own later kept moved united both back near union = record {
-  rises = union.rises;
-  holds = λ s. union.holds (cells_of s)
-      ∙ ap (λ r. any_holds (cells_of s) own || r) (near.holds (cells_of s) ∙ back.holds s);
-  can = λ a b.
-      let two = back.can b in
-      union.each Open a (near.each Open two.0 two.1);
-  names = λ names effect a b.
-      let two = back.names names effect b in
-      union.each (Within (has_cell names)) a (near.each (Within (has_cell names)) two.0 two.1);
-  few = omega (arith, union.few, near.few, back.few);
-}
+-- the two lists of what is pulled back become one
+pub pulled_united : (first : Effect) (later kept moved : List Ask) (united : Option (Vec Ask Global))
+    → IsPulledBack first later (kept ++ moved) → IsUnion kept moved united → ArePulledBack first later united
+pulled_united first later kept moved None back always = λ s.
+    sym (back.holds s) ∙ list_any-append (holds (cells_of s)) kept moved ∙ always s
+pulled_united first later kept moved (Some united) back near = (
+  near.rises,
+  record {
+    holds = λ s. near.holds (cells_of s) ∙ sym (list_any-append (holds (cells_of s)) kept moved) ∙ back.holds s;
+    each = λ said effect all.
+        let both = back.each said effect all in
+        near.each said (all_left (IsSaid said) kept moved both) (all_right (IsSaid said) kept moved both);
+    few = omega (arith, near.few, back.few, length-append kept moved);
+  },
+)
 
-pub asked_by_one : (first : Effect) (own later kept moved united : List Ask) (both : Option (Vec Ask Global))
-    → IsPulledBack first later kept moved → IsUnionOf kept moved united → IsUnion own united both
-    → IsAskedByOne first own later both
-asked_by_one first own later kept moved united None back near always = λ s.
-    ap (λ r. any_holds (cells_of s) own || r) (sym (near.holds (cells_of s) ∙ back.holds s)) ∙ always s
-asked_by_one first own later kept moved united (Some both) back near union =
-    asked_by_both first own later kept moved united both.items back near union
+pub asked_by_both : (first : Effect) (own later back : List Ask) (both : Option (Vec Ask Global))
+    → IsPulledBack first later back → IsUnion own back both → AreAskedByBoth first own later both
+asked_by_both first own later back None is always = λ s.
+    ap (λ r. any_holds (cells_of s) own || r) (sym (is.holds s)) ∙ always s
+asked_by_both first own later back (Some both) is union = (back, is, union)
 
 -- ---- both segments
 -- something is found in every state
 pub always_asked : (first : Effect) (own later both : Precondition) → ((cells : Cells) → is_met cells both ≡ true)
-    → IsSettled both → IsPossible both → ((names : Names) → PreWithin names both) → asks_size both ≡ 0
+    → IsSettled both → ((said : Saying) → AllSaid said both) → asks_size both ≡ 0
     → ((s : State) → (is_met (cells_of s) own || is_met (changed first (cells_of s)) later) ≡ true)
     → IsAskedByBoth first own later both
-always_asked first own later both always settled possible within nothing found = record {
-  met = λ s. always (cells_of s) ∙ sym (found s);
-  possible = λ old more. possible;
-  names = λ names effect a b. within names;
+always_asked first own later both always settled each nothing found = record {
+  with = record {
+    met = λ s. always (cells_of s) ∙ sym (found s);
+    each = λ said effect other mine. each said;
+    few = omega (arith, nothing);
+    refusals = omega (arith, nothing);
+  };
   settled = settled;
-  few = omega (arith, nothing);
-  refusals = omega (arith, nothing);
 }
 
 -- the first segment's refusals beside the asks of both, and then the refusals of the later one
 module _ (first : Effect) (own later before new : Precondition) (refusals : List UpToThree)
     (own_open : own.certain ≡ false) (later_open : later.certain ≡ false) (before_open : before.certain ≡ false)
-    (asked : AreAskedByBoth first own.asks.items later.asks.items before.asks.items)
+    (asked : AreAskedByBoth first own.asks.items later.asks.items (Some before.asks))
     (same : before.refusals.items ≡ own.refusals.items) (theirs : refusals ≡ later.refusals.items)
-    (with : IsWithMore first (λ cells. list_any (is_wrongful cells) refusals) (λ names. RefusalsWithin names refusals)
-    (length refusals) (length refusals) before new) where
+    (with : IsWithMore first (λ cells. list_any (is_wrongful cells) refusals)
+    (λ said. All (IsRefusalSaid said) refusals) (length refusals) (length refusals) before new) where
   pub met_joined : (s : State) → is_met (cells_of s) new
       ≡ (is_met (cells_of s) own || is_met (changed first (cells_of s)) later)
-  met_joined s = with.met s
-      ∙ rw (asked.holds s, own_open, later_open, before_open, same, theirs) (grind arith)
+  met_joined s = with.met s ∙ rw (
+    asked.2.holds (cells_of s),
+    asked.1.holds s,
+    own_open,
+    later_open,
+    before_open,
+    same,
+    theirs,
+  ) (grind arith)
 
   pub asked_joined : new.certain ≡ false → new.asks ≡ before.asks → IsAskedByBoth first own later new
   asked_joined new_open asks = record {
-    met = met_joined;
-    possible = λ old more.
-        with.possible (record { asks = asked.can old.asks more.asks; refusals = rw same old.refusals });
-    names = λ within effect a b. with.names within effect (rw theirs b.refusals)
-        (record { asks = asked.names within effect a.asks b.asks; refusals = rw same a.refusals });
+    with = record {
+      met = met_joined;
+      each = λ said effect other mine. with.each said effect (rw theirs other.refusals) (record {
+        asks = asked.2.each said mine.asks (asked.1.each said effect other.asks);
+        refusals = rw same mine.refusals;
+      });
+      few = omega (arith, with.few, asked.2.few, asked.1.few, firsts, laters);
+      refusals = omega (arith, with.refusals, firsts, laters);
+    };
     settled = record {
-      rises = rw asks asked.rises;
+      rises = rw asks asked.2.rises;
       alone = λ (is : new.certain ≡ true). absurd (let wrong : false ≡ true = sym new_open ∙ is in cc);
     };
-    few = omega (arith, with.few, asked.few, firsts, laters);
-    refusals = omega (arith, with.refusals, firsts, laters);
   }
     where
       firsts : length before.refusals.items ≡ length own.refusals.items

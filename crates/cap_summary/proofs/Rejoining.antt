@@ -1,12 +1,11 @@
 -- What is known of an old whole, of a whole that has another part in place of one.
-use Rattle.std.specs.Prelude.{◌≡◌, ◌||◌, ℕ, true, false, refl}
-use Rattle.cap_summary.specs.{Similarity, Side, Left, Right, part_at, Effects.cell_in, Effects.changed, Keys.Cells}
-use Rattle.cap_summary.specs.{Keys.cells_of, Sorted.found, declared.effect.Effect.Effect, declared.known.Known.Known}
-use Rattle.cap_summary.specs.{declared.precondition.Precondition.Precondition}
-use Rattle.cap_summary.specs.Composing.{IsJoined, IsComposedSo, IsJoinedEffect, AreAlike, KeepsEffect}
-use Rattle.cap_summary.specs.Names.{Names, PreWithin}
-use Rattle.cap_summary.specs.Preconditions.{is_met, IsPossible, IsSamePrecondition, IsAskedByBoth}
-use Rattle.cap_summary.proofs.{ap, ◌∙◌, arith}
+use Rattle.std.specs.Prelude.{false, refl, true, ℕ, ◌||◌, ◌≡◌}
+use Rattle.cap_summary.proofs.{ap, arith, ◌∙◌}
+use Rattle.cap_summary.specs.{Effects.cell_in, Keys.cells_of, declared.effect.Effect.Effect, declared.known.Known.Known}
+use Rattle.cap_summary.specs.{Effects.changed, Keys.Cells, Left, Right, Side, Similarity, Sorted.found, part_at}
+use Rattle.cap_summary.specs.Composing.{AreAlike, IsComposedSo, IsJoined, IsJoinedEffect, KeepsEffect}
+use Rattle.cap_summary.specs.declared.precondition.Precondition.{Precondition}
+use Rattle.cap_summary.specs.Preconditions.{AllSaid, IsAskedByBoth, IsSamePrecondition, Saying, is_met}
 
 same_cells : (a b : Effect) → a.rows ≡ b.rows → (cells : Cells) → changed a cells ≡ changed b cells
 same_cells a b same cells = ap (λ rows. λ p k. cell_in cells (found rows p) p k) same
@@ -33,36 +32,35 @@ second_effect first was later old same joined = record { rows = λ p. rw same at
 same_met : (a b : Precondition) → IsSamePrecondition a b → (cells : Cells) → is_met cells a ≡ is_met cells b
 same_met a b same cells = rw (same.certain, same.asks, same.refusals) refl
 
-possible_back : (a b : Precondition) → IsSamePrecondition a b → IsPossible b → IsPossible a
-possible_back a b same is = record { asks = rw same.asks is.asks; refusals = rw same.refusals is.refusals }
-
-named_back : (a b : Precondition) → IsSamePrecondition a b → (names : Names) → PreWithin names b → PreWithin names a
-named_back a b same names is = record { asks = rw same.asks is.asks; refusals = rw same.refusals is.refusals }
+said_back : (a b : Precondition) → IsSamePrecondition a b → (said : Saying) → AllSaid said b → AllSaid said a
+said_back a b same said is = record { asks = rw same.asks is.asks; refusals = rw same.refusals is.refusals }
 
 -- the same asks in the first place, with the same effect, and in the second
 first_asks : (was first : Effect) (own new later old : Precondition) → was.rows ≡ first.rows
     → IsSamePrecondition own new → IsAskedByBoth was own later old → IsAskedByBoth first new later old
 first_asks was first own new later old effect same asked = record {
-  met = λ s. asked.met s
-      ∙ ap (λ r. r || is_met (changed was (cells_of s)) later) (same_met own new same (cells_of s))
-      ∙ ap (λ (c : Cells). is_met (cells_of s) new || is_met c later) (same_cells was first effect (cells_of s));
-  possible = λ mine other. asked.possible (possible_back own new same mine) other;
-  names = λ names one mine other. asked.names names (rw effect one) (named_back own new same names mine) other;
+  with = record {
+    met = λ s. asked.with.met s
+        ∙ ap (λ r. r || is_met (changed was (cells_of s)) later) (same_met own new same (cells_of s))
+        ∙ ap (λ (c : Cells). is_met (cells_of s) new || is_met c later) (same_cells was first effect (cells_of s));
+    each = λ said one other mine. asked.with.each said (rw effect one) other (said_back own new same said mine);
+    few = rw (same.asks, same.refusals) at asked.with.few;
+    refusals = rw same.refusals at asked.with.refusals;
+  };
   settled = asked.settled;
-  few = rw (same.asks, same.refusals) at asked.few;
-  refusals = rw same.refusals at asked.refusals;
 }
 
 second_asks : (first : Effect) (own was later old : Precondition) → IsSamePrecondition was later
     → IsAskedByBoth first own was old → IsAskedByBoth first own later old
 second_asks first own was later old same asked = record {
-  met = λ s. asked.met s
-      ∙ ap (λ r. is_met (cells_of s) own || r) (same_met was later same (changed first (cells_of s)));
-  possible = λ mine other. asked.possible mine (possible_back was later same other);
-  names = λ names one mine other. asked.names names one mine (named_back was later same names other);
+  with = record {
+    met = λ s. asked.with.met s
+        ∙ ap (λ r. is_met (cells_of s) own || r) (same_met was later same (changed first (cells_of s)));
+    each = λ said one other mine. asked.with.each said one (said_back was later same said other) mine;
+    few = rw (same.asks, same.refusals) at asked.with.few;
+    refusals = rw same.refusals at asked.with.refusals;
+  };
   settled = asked.settled;
-  few = rw (same.asks, same.refusals) at asked.few;
-  refusals = rw same.refusals at asked.refusals;
 }
 
 -- what is seen of the part on a side is that of the two that is on this side

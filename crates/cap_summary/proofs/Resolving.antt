@@ -1,16 +1,15 @@
 -- Findings of segments, one after the other.
-use Rattle.std.proofs.Common.{add_assoc, length-take, le-leb}
-use Rattle.std.proofs.{lemmas.Bool.lt-leb, lemmas.List.Elements.filter-append, lemmas.List.Elements.All-map}
-use Rattle.std.proofs.{lemmas.List.Filters.length-filter_both}
-use Rattle.cap_machine.proofs.{Positions.positions_within}
-use Rattle.std.specs.Prelude.{◌≡◌, ◌+◌, ◌<◌, ◌≤◌, ◌∷◌, ◌++◌, ◌&&◌, ◌⊎◌, ◌-◌, ◌*◌, ◌/◌, ℕ, List, [], Bool, true, false}
-use Rattle.std.specs.Prelude.{cond, length, map, take, drop, get_or, refl, All, filter, nat_le, not}
-use Rattle.cap_summary.specs.{Step, Found, Finding, State, ended, check, said, found_at, later, LineAsks.has_any}
-use Rattle.cap_summary.specs.{declared.judging.Asked.Asked}
-use Rattle.cap_summary.specs.Positions.{is_at, within, said_in, found_in, AllOrMany}
-use Rattle.cap_summary.proofs.{sym, ap, ◌∙◌, append_assoc, arith, inl, inr, length-append, map-append, append-nil}
-use Rattle.cap_summary.proofs.{length-map, length-take-le, take_all, take_more, take-append-drop, All-head, All-tail}
-use Rattle.cap_summary.proofs.{cases_lt, and-false, checks_in_turn}
+use Rattle.std.specs.Prelude.{Bool, List, [], cond, drop, false, filter, get_or, length, nat_le, refl, take, true, ◌&&◌}
+use Rattle.std.specs.Prelude.{All, map, not, ℕ, ◌*◌, ◌++◌, ◌+◌, ◌-◌, ◌/◌, ◌<◌, ◌∷◌, ◌≡◌, ◌≤◌, ◌⊎◌}
+use Rattle.cap_summary.proofs.{and-false, append_assoc, checks_in_turn, length-append, length-take-le, take-append-drop}
+use Rattle.cap_summary.proofs.{All-head, All-tail, append-nil, cases_lt, length-map, map-append, take_all, take_more}
+use Rattle.cap_summary.proofs.{ap, arith, inl, inr, sym, ◌∙◌}
+use Rattle.std.proofs.{Common.length-take, lemmas.List.Elements.filter-append, lemmas.List.Filters.length-filter_both}
+use Rattle.std.proofs.{Common.add_assoc, Common.le-leb, lemmas.Bool.lt-leb, lemmas.List.Elements.All-map}
+use Rattle.cap_machine.proofs.Positions.{positions_within}
+use Rattle.cap_summary.specs.{Finding, Found, LineAsks.has_any, State, Step, check, ended, found_at, later, said}
+use Rattle.cap_summary.specs.declared.judging.Asked.{Asked}
+use Rattle.cap_summary.specs.Positions.{AllOrMany, found_in, is_at, said_in, within}
 
 later-later : (m n : ℕ) (xs : List Found) → map (later m) (map (later n) xs) ≡ map (later (m + n)) xs
 later-later m n [] = refl

@@ -1,8 +1,8 @@
 -- Runs of shared steps.
+use Rattle.std.specs.Prelude.{List, [], get_or, length, slice_range, take, ℕ, ◌++◌, ◌<◌, ◌∷◌, ◌≡◌}
+use Rattle.cap_summary.proofs.{ap, append-nil, arith, sym, ◌∙◌}
 use Rattle.std.proofs.{lemmas.List.take-map, lemmas.Slice.between_to_end}
-use Rattle.std.specs.Prelude.{◌≡◌, ◌∷◌, ◌++◌, ◌<◌, ℕ, List, [], length, get_or, slice_range, take}
-use Rattle.cap_summary.specs.{Rc, values, Composing.NodeView}
-use Rattle.cap_summary.proofs.{sym, ap, ◌∙◌, arith, append-nil}
+use Rattle.cap_summary.specs.{Composing.NodeView, Rc, values}
 
 -- a list without items, before and after another
 pub none_before : {X : Type 0} (a b n : List X) → n ≡ b → length a ≡ 0 → n ≡ a ++ b

@@ -1,8 +1,8 @@
 -- A table that is made of two, key by key.
-use Rattle.cap_summary.specs.{option_or, Sorted.found, Sorted.RisesFrom, Sorted.Rises}
-use Rattle.cap_summary.proofs.{inl, inr, sym, ap, ◌∙◌, arith, cases_lt, eq-eqb, ne_eqb, nat_tests, SortedFound.found_below}
-use Rattle.std.specs.Prelude.{◌||◌, ◌++◌, if◌then◌else◌, true, List, [], Option, Some, None, refl, is_some}
-use Rattle.std.specs.Prelude.{◌≡◌, ◌+◌, ◌<◌, ◌≤◌, ◌∷◌, ℕ, eqb}
+use Rattle.cap_summary.proofs.{ap, arith, cases_lt, eq-eqb, inl, inr, nat_tests, ne_eqb, sym, ◌∙◌}
+use Rattle.cap_summary.proofs.SortedFound.{found_below}
+use Rattle.std.specs.Prelude.{List, None, Some, [], eqb, if◌then◌else◌, true, ℕ, ◌++◌, ◌+◌, ◌<◌, ◌||◌, ◌∷◌, ◌≡◌, ◌≤◌}
+use Rattle.cap_summary.specs.{Option, Sorted.Rises, Sorted.RisesFrom, Sorted.found, is_some, option_or, refl}
 use mathlib.Core.Bool.{false≢true}
 
 -- a key from the bound on isn't found

@@ -1,12 +1,12 @@
 -- Of some asks one holds in every state, or none holds in some.
-use Rattle.std.specs.Prelude.{◌≡◌, ◌∷◌, ◌&&◌, ◌==◌, ℕ, Bool, true, false, List, [], refl}
-use Rattle.cap_summary.specs.{list_any, list_all, none, join, has_all, OnExec, Cell, Held, State, Keys.Cells}
-use Rattle.cap_summary.specs.{Keys.cells_of, Tests.passes, Tests.each_kind, declared.ask.Ask.Ask, declared.key.Key.Key}
-use Rattle.cap_summary.specs.Asks.{holds, any_holds, is_sure, key_number, is_about, is_sure_at, are_sure_at, one_is_certain}
-use Rattle.cap_summary.proofs.{inl, inr, sym, ap, ◌∙◌, arith, eqb-true, eq-eqb, fun_ext, or_cases, or_parts, or-true}
-use Rattle.cap_summary.proofs.{Bools.and_left, Bools.and_right, TestPassing.own_rights, TestPassing.has_both}
-use Rattle.cap_summary.proofs.Asking.{chosen, stands, sure_passes, fails_with, failing, failing_fails, each_passes}
-use Rattle.cap_summary.proofs.Asking.{alike_sure}
+use Rattle.std.specs.Prelude.{Bool, List, [], false, refl, true, ℕ, ◌&&◌, ◌==◌, ◌∷◌, ◌≡◌}
+use Rattle.cap_summary.proofs.{Bools.and_left, Bools.and_right, TestPassing.has_both, TestPassing.own_rights, eqb-true}
+use Rattle.cap_summary.proofs.{ap, arith, eq-eqb, fun_ext, inl, inr, or-true, or_cases, or_parts, sym, ◌∙◌}
+use Rattle.cap_summary.proofs.Asking.{alike_sure, chosen, each_passes, failing, failing_fails, fails_with, sure_passes}
+use Rattle.cap_summary.proofs.Asking.{stands}
+use Rattle.cap_summary.specs.{Keys.cells_of, Tests.each_kind, Tests.passes, declared.ask.Ask.Ask, declared.key.Key.Key}
+use Rattle.cap_summary.specs.{Cell, Held, Keys.Cells, OnExec, State, has_all, join, list_any, none}
+use Rattle.cap_summary.specs.Asks.{any_holds, are_sure_at, holds, is_certain_in, is_sure, is_sure_at, key_number}
 
 same_key : (j k : Key) → key_number j ≡ key_number k → j ≡ k
 same_key j k is = grind (arith, is)
@@ -15,10 +15,10 @@ same_key j k is = grind (arith, is)
 sure_holds : (a : Ask) (s : State) (p : ℕ) (k : Key) → is_sure_at p k (cells_of s p k) a ≡ true
     → holds (cells_of s) a ≡ true
 sure_holds a s p k is =
-    let about = and_left (is_about p k a) _ is in
+    let about = and_left ((a.pid == p) && (key_number a.key == key_number k)) _ is in
     let pid : a.pid ≡ p = eqb-true _ _ (and_left (a.pid == p) _ about) in
     let at : a.key ≡ k = same_key a.key k (eqb-true _ _ (and_right (a.pid == p) _ about)) in
-    rw (pid, at) (sure_passes a s p k (rw at at (and_right (is_about p k a) _ is)))
+    rw (pid, at) (sure_passes a s p k (rw at at (and_right ((a.pid == p) && (key_number a.key == key_number k)) _ is)))
 
 any_sure : (asks : List Ask) (s : State) (p : ℕ) (k : Key) → are_sure_at asks p k (cells_of s p k) ≡ true
     → any_holds (cells_of s) asks ≡ true
@@ -31,13 +31,11 @@ any_sure (a ∷ asks) s p k is = elim (or_cases _ _ is) [
 alike : (asks : List Ask) (p : ℕ) (k : Key) (r : ℕ) (flag : OnExec)
     → are_sure_at asks p k (Held r flag) ≡ are_sure_at asks p k (Held none flag)
 alike asks p k r flag = ap (λ (sure : Ask → Bool). list_any sure asks)
-    (fun_ext (λ a. ap (λ x. is_about p k a && x) (alike_sure a a.key r flag)))
+    (fun_ext (λ a. ap (λ x. ((a.pid == p) && (key_number a.key == key_number k)) && x) (alike_sure a a.key r flag)))
 
 module _ (all : List Ask) where
-  abbrev is_certain_in : Ask → Bool
-  is_certain_in a = list_all (are_sure_at all a.pid a.key) each_kind
-
-  pub one_certain : (asks : List Ask) → list_any is_certain_in asks ≡ true → (s : State) → any_holds (cells_of s) all ≡ true
+  pub one_certain : (asks : List Ask) → list_any (is_certain_in all) asks ≡ true → (s : State)
+      → any_holds (cells_of s) all ≡ true
   one_certain [] is s = absurd cc
   one_certain (a ∷ asks) is s = elim (or_cases _ _ is) [
     | inl h ↦ any_sure all s a.pid a.key
@@ -61,8 +59,8 @@ module _ (all : List Ask) (r : ℕ) where
       let p = a.pid in
       let k = a.key in
       let c = cells_chosen all p k in
-      let about : is_about p k a ≡ true = rw (eq-eqb p p refl, eq-eqb (key_number k) (key_number k) refl) refl in
-      let open_ : is_sure a k c ≡ false = rw about at (one p k c (failing_fails (are_sure_at all p k) each_kind is)) in
+      let open_ : is_sure a k c ≡ false = rw (eq-eqb p p refl, eq-eqb (key_number k) (key_number k) refl) at
+      (one p k c (failing_fails (are_sure_at all p k) each_kind is)) in
       ap (passes a) (stands r (cells_chosen all) p k) ∙ fails_with a r k c has open_
 
   none_of : (asks : List Ask)
@@ -79,7 +77,8 @@ module _ (all : List Ask) (r : ℕ) where
       )
       refl
 
-pub none_holds : (asks : List Ask) → one_is_certain asks ≡ false → (s : State) × (any_holds (cells_of s) asks ≡ false)
+pub none_holds : (asks : List Ask) → list_any (is_certain_in asks) asks ≡ false
+    → (s : State) × (any_holds (cells_of s) asks ≡ false)
 none_holds asks is =
     let r = rights_of asks in
     (chosen r (cells_chosen asks), none_of asks r asks (λ p k c no. no) (own_rights r) is)

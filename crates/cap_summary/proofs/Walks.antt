@@ -1,12 +1,12 @@
 -- Walks back through the parts of a node.
+use Rattle.std.specs.Prelude.{List, length, refl, reverse, take, ℕ, ◌++◌, ◌+◌, ◌-◌, ◌<◌, ◌≡◌}
+use Rattle.cap_summary.proofs.{append_assoc, arith, length-append, length-reverse, reverse-append, sym, take_all, ◌∙◌}
+use Rattle.cap_summary.proofs.{ap}
 use Rattle.std.proofs.{Math.Seq.take-append-add, lemmas.List.Elements.All-take}
-use Rattle.cap_machine.specs.Code.Walks.{cell_pid, cell_fd, mode_pid}
-use Rattle.cap_machine.proofs.{Walking.cells_may_be_left_out, Walking.modes_may_be_left_out}
-use Rattle.std.specs.Prelude.{◌≡◌, ◌+◌, ◌-◌, ◌<◌, ◌++◌, ℕ, List, length, take, refl, reverse}
-use Rattle.cap_summary.specs.{Step, CellWalk, ModeWalk, State, kept, stays, touch, turn, LeavesCell, LeavesMode}
+use Rattle.cap_machine.specs.Code.Walks.{cell_fd, cell_pid, mode_pid}
+use Rattle.cap_machine.proofs.Walking.{cells_may_be_left_out, modes_may_be_left_out}
+use Rattle.cap_summary.specs.{CellWalk, LeavesCell, LeavesMode, ModeWalk, State, Step, kept, stays, touch, turn}
 use Rattle.cap_summary.specs.PlaceInNode.{Origin, Passes, cell_seen, mode_seen}
-use Rattle.cap_summary.proofs.{sym, ap, ◌∙◌, arith, append_assoc, length-append, reverse-append, length-reverse}
-use Rattle.cap_summary.proofs.{take_all}
 
 module _ {W : Type 0} (see : W → State → List Step → Origin) where
   -- the right part, and then the left one

@@ -1,12 +1,10 @@
 -- What is asked of the cells before a segment.
-use Rattle.std.specs.Prelude.{◌≡◌, ◌+◌, ◌*◌, ◌^◌, ◌%◌, ◌≤◌, ◌==◌, ◌&&◌, ◌||◌, ◌∷◌, ℕ, not, Bool, true, false, List, []}
-use Rattle.std.specs.{declared.vec.Vec.Vec}
-use Rattle.std.specs.Prelude.{length, take, min, Option, Some, None, All}
-use Rattle.cap_summary.specs.{list_any, list_all, none, has_all, Inside, Outside, Cell, State, Mode, Global, Keys.Cells}
-use Rattle.cap_summary.specs.{Keys.mode_cell, Keys.cell_mode, Keys.cells_of, declared.ask.Ask.Ask}
-use Rattle.cap_summary.specs.{declared.ask.Pulled.Pulled, declared.key.Key.Key, declared.kinds.Kinds.Kinds}
-use Rattle.cap_summary.specs.{declared.up_to_three.UpToThree.UpToThree}
-use Rattle.cap_summary.specs.Tests.{passes, any_held, any_kind, holding, each_kind}
+use Rattle.std.specs.Prelude.{All, Bool, List, false, min, not, take, true, ◌%◌, ◌&&◌, ◌*◌, ◌+◌, ◌==◌, ◌^◌, ◌||◌, ◌∷◌}
+use Rattle.std.specs.Prelude.{[], ℕ, ◌≡◌, ◌≤◌}
+use Rattle.cap_summary.specs.{Tests.each_kind, declared.ask.Pulled.Pulled, declared.up_to_three.UpToThree.UpToThree}
+use Rattle.cap_summary.specs.{Keys.cell_mode, declared.ask.Ask.Ask, declared.key.Key.Key, declared.kinds.Kinds.Kinds}
+use Rattle.cap_summary.specs.{Keys.Cells, Keys.cells_of, Keys.mode_cell, Tests.any_held, Tests.any_kind, Tests.holding}
+use Rattle.cap_summary.specs.{Cell, Inside, Mode, Outside, State, Tests.passes, has_all, list_all, list_any, none}
 use Rattle.cap_summary.specs.declared.ask.Pulled.TheVariants.{Always, Never, Where}
 
 -- an ask holds of the cells before the segment
@@ -72,21 +70,17 @@ place_in_process ask = 8 * key_number ask.key + held_number ask.lacking
 abbrev pub place : Ask → ℕ
 place ask = ask.pid * 2 ^ 36 + place_in_process ask
 
--- an ask is about a cell
-abbrev pub is_about : ℕ → Key → Ask → Bool
-is_about p k ask = (ask.pid == p) && (key_number ask.key == key_number k)
-
--- and it passes it, also where it lacks none of the rights
+-- an ask is about a cell and passes it, also where it lacks none of the rights
 abbrev pub is_sure_at : ℕ → Key → Cell → Ask → Bool
-is_sure_at p k cell ask = is_about p k ask && is_sure ask ask.key cell
+is_sure_at p k cell ask = ((ask.pid == p) && (key_number ask.key == key_number k)) && is_sure ask ask.key cell
 
 -- one of these does
 abbrev pub are_sure_at : List Ask → ℕ → Key → Cell → Bool
 are_sure_at asks p k cell = list_any (is_sure_at p k cell) asks
 
--- of these one is about the cell of an ask and passes it, whatever it is
-abbrev pub one_is_certain : List Ask → Bool
-one_is_certain asks = list_any (λ (ask : Ask). list_all (are_sure_at asks ask.pid ask.key) each_kind) asks
+-- one of these is about the cell of an ask and passes it, whatever it is
+abbrev pub is_certain_in : List Ask → Ask → Bool
+is_certain_in asks ask = list_all (are_sure_at asks ask.pid ask.key) each_kind
 
 -- two asks stand at one place
 pub record IsAtPlace (ask other : Ask) : Type 0 where
@@ -109,28 +103,3 @@ AskWithin names ask = names ask.pid ask.key ≡ true
 
 abbrev pub AreWithin : (ℕ → Key → Bool) → List Ask → Type 0
 AreWithin names asks = All (AskWithin names) asks
-
--- what may be said of an ask: that its cell is among these, or that whether it holds depends on the state
-pub data Saying : Type 0 where
-  Within : (ℕ → Key → Bool) → Saying
-  Open : Saying
-
-abbrev pub IsSaid : Saying → Ask → Type 0
-IsSaid (Within names) ask = AskWithin names ask
-IsSaid Open ask = IsOpen ask
-
--- of two lists one ask holds, in every state
-abbrev pub OneAlwaysHolds : List Ask → List Ask → Type 0
-OneAlwaysHolds lefts rights = (s : State) → (any_holds (cells_of s) lefts || any_holds (cells_of s) rights) ≡ true
-
--- a list of asks that holds where one of two others does
-pub record IsUnionOf (lefts rights asks : List Ask) : Type 0 where
-  pub rises : Rises asks
-  pub holds : (cells : Cells) → any_holds cells asks ≡ (any_holds cells lefts || any_holds cells rights)
-  pub few : length asks ≤ length lefts + length rights
-  pub each : (said : Saying) → All (IsSaid said) lefts → All (IsSaid said) rights → All (IsSaid said) asks
-
--- two lists of asks as one, if it depends on the state whether one holds
-abbrev pub IsUnion : List Ask → List Ask → Option (Vec Ask Global) → Type 0
-IsUnion lefts rights None = OneAlwaysHolds lefts rights
-IsUnion lefts rights (Some asks) = IsUnionOf lefts rights asks.items

@@ -1,13 +1,12 @@
 -- What becomes of each cell over a segment, whatever the cells before it: the transfer function of the segment.
-use Rattle.cap_summary.specs.{declared.base.DefaultCells.DefaultCells, declared.base.Passing.Passing, Keys.cells_of}
+use Rattle.std.specs.Prelude.{Bool, List, None, [], if◌then◌else◌, not, ℕ, ◌&&◌, ◌==◌, ◌||◌, ◌≡◌, ◌⊎◌}
+use Rattle.cap_summary.specs.{Keys.mode_cell, declared.base.DefaultCells.DefaultCells, declared.base.Passing.Passing}
 use Rattle.cap_summary.specs.{declared.before.Before.Before, declared.effect.Effect.Effect, declared.value.Value.Value}
-use Rattle.cap_summary.specs.{declared.base.Base.Base, declared.effect.Row.Row, declared.key.Key.Key, Keys.state_of}
-use Rattle.cap_summary.specs.{option_map_or, Unknown, effect_touch, effect_turn, start_state, Sorted.found, Values.read}
-use Rattle.cap_summary.specs.{Cell, Closed, State, LineEffect, applied, exec, kept, stays, follows, started, turns, touched}
-use Rattle.cap_summary.specs.{Turn, is_child, Keys.Cells, Keys.mode_cell}
-use Rattle.cap_summary.specs.declared.before.Before.TheVariants.{At, After'}
-use Rattle.std.specs.Prelude.{◌≡◌, ◌&&◌, if◌then◌else◌, not, Bool, true, false, Option, Some, None, is_none, nat_le, []}
-use Rattle.std.specs.Prelude.{◌==◌, ◌||◌, ◌⊎◌, ℕ, List}
+use Rattle.cap_summary.specs.{Keys.cells_of, declared.base.Base.Base, declared.effect.Row.Row, declared.key.Key.Key}
+use Rattle.cap_summary.specs.{Keys.state_of, Sorted.found, State, Values.read, effect_touch, effect_turn, option_map_or}
+use Rattle.cap_summary.specs.{Closed, Keys.Cells, LineEffect, Unknown, applied, follows, is_child, is_none, start_state}
+use Rattle.cap_summary.specs.{Cell, Option, Some, Turn, exec, false, kept, nat_le, started, stays, touched, true, turns}
+use Rattle.cap_summary.specs.declared.before.Before.TheVariants.{After', At}
 
 -- how a whole table of cells is handed on: as it is (fork(2)), or by an exec (execve(2))
 abbrev pub passed : Passing → Cell → Cell

@@ -1,8 +1,8 @@
 -- What is kept of steps, and where so much may be known of them that it isn't kept: where they name many processes and
 -- descriptors, or have many calls that were refused for lack of a right.
-use Rattle.std.specs.Prelude.{◌+◌, ◌*◌, ◌<◌, ◌≤◌, ◌⊎◌, ◌==◌, ℕ, Bool, min, List, length}
-use Rattle.cap_summary.specs.{list_any, Step, Knows.Knows, LineAsks.refused, Names.Names, Names.names_in}
-use Rattle.cap_summary.specs.{Names.AreAmong, RowSizes.rows_size, RowSizes.AllRise, declared.known.Known.Known}
+use Rattle.std.specs.Prelude.{Bool, List, length, min, ℕ, ◌*◌, ◌+◌, ◌<◌, ◌==◌, ◌≤◌, ◌⊎◌}
+use Rattle.cap_summary.specs.{LineAsks.refused, RowSizes.AllRise, RowSizes.rows_size, Step, declared.known.Known.Known}
+use Rattle.cap_summary.specs.{Knows.Knows, Names.AreAmong, Names.Names, Names.names_in, list_any}
 use Rattle.cap_summary.specs.Preconditions.{IsSettled, size}
 
 -- the most rows and cells that are kept of so many steps

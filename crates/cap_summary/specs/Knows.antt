@@ -4,7 +4,7 @@ use Rattle.cap_summary.specs.{Step, State, ended, check, LeavesCell, LeavesMode,
 use Rattle.cap_summary.specs.{Effects.changed, Effects.leaves, LineAsks.refused, LineAsks.has_any}
 use Rattle.cap_summary.specs.{declared.effect.Effect.Effect, declared.key.Key.Key, declared.known.Known.Known}
 use Rattle.cap_summary.specs.{declared.precondition.Precondition.Precondition, Names.names_in, Names.EffectWithin}
-use Rattle.cap_summary.specs.{Names.PreWithin, Preconditions.is_met, Preconditions.IsPossible, Preconditions.asks_size}
+use Rattle.cap_summary.specs.Preconditions.{is_met, AllSaid, Within, Open, asks_size}
 
 -- no step touches a cell, or turns a mode
 abbrev pub StepsLeave : List Step → ℕ → Key → Type 0
@@ -17,10 +17,10 @@ StepsLeave steps p (Key.Fd f) = LeavesCell steps p f
 pub record Says (effect : Effect) (precondition : Precondition) (steps : List Step) : Type 0 where
   pub after : (s : State) (p : ℕ) (k : Key) → changed effect (cells_of s) p k ≡ cells_of (ended s steps) p k
   pub finds : (s : State) → is_met (cells_of s) precondition ≡ has_any (check s steps)
-  pub possible : IsPossible precondition
+  pub possible : AllSaid Open precondition
   pub left : (p : ℕ) (k : Key) → leaves effect p k ≡ true → StepsLeave steps p k
   pub effect_named : EffectWithin (names_in steps) effect
-  pub asks_named : PreWithin (names_in steps) precondition
+  pub asks_named : AllSaid (Within (names_in steps)) precondition
   pub few : asks_size precondition ≤ 3 * length steps
   pub refusals : length precondition.refusals.items ≤ refused steps
 

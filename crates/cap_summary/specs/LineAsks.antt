@@ -1,10 +1,9 @@
 -- What one line asks of the cells before it.
-use Rattle.std.specs.Prelude.{◌≡◌, ◌+◌, ◌∷◌, if◌then◌else◌, ℕ, not, Bool, true, false, List, []}
-use Rattle.cap_machine.specs.{declared.rule.Reply.Reply, Judge.is_excused}
-use Rattle.cap_summary.specs.{Step, State, Cell, NotCapable, requirement, Check, LimitWord, Requirement}
-use Rattle.cap_summary.specs.{fault, findings_of, Asks.any_holds, Asks.asks_of}
-use Rattle.cap_summary.specs.{Keys.Cells, Keys.cells_of, declared.ask.Ask.Ask, declared.line_asks.LineAsks.LineAsks}
-use Rattle.cap_summary.specs.declared.line_asks.LineAsks.TheVariants.{Always, Where, Unless}
+use Rattle.std.specs.Prelude.{Bool, List, [], false, if◌then◌else◌, not, true, ℕ, ◌+◌, ◌∷◌}
+use Rattle.cap_summary.specs.{Asks.any_holds, Asks.asks_of, declared.ask.Ask.Ask, declared.line_asks.LineAsks.LineAsks}
+use Rattle.cap_summary.specs.{Cell, Check, Keys.Cells, LimitWord, NotCapable, Step, fault, requirement}
+use Rattle.cap_summary.specs.declared.line_asks.LineAsks.TheVariants.{Always, Unless, Where}
+use Rattle.cap_machine.specs.{Judge.is_excused, declared.rule.Reply.Reply}
 
 -- what is asked holds
 abbrev pub asked_holds : Cells → LineAsks → Bool
@@ -32,10 +31,6 @@ is_lacked true word check cell = not (is_excused check.excuse cell)
 abbrev pub refusals_in : LineAsks → ℕ
 refusals_in (Unless asks) = 1
 refusals_in asks = 0
-
--- it holds in a state exactly where something is said of the line there
-abbrev pub IsAskedBy : Requirement → ℕ → LineAsks → Type 0
-IsAskedBy requirement me asks = (s : State) → asked_holds (cells_of s) asks ≡ has_any (findings_of requirement me s)
 
 -- a call was refused for lack of a right (errno 93)
 abbrev pub is_refusal : Reply → Bool

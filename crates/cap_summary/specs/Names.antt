@@ -1,11 +1,10 @@
--- Which processes and which descriptors an effect and a precondition name.
-use Rattle.cap_summary.specs.{declared.precondition.Precondition.Precondition, declared.up_to_three.UpToThree.UpToThree}
-use Rattle.cap_summary.specs.{Asks.AreWithin, declared.base.DefaultCells.DefaultCells, declared.effect.Effect.Effect}
-use Rattle.cap_summary.specs.{option_map_or, declared.effect.Row.Row, declared.value.Value.Value}
-use Rattle.cap_summary.specs.{Check, Requirement, Asks.asks_of, Sorted.found, Values.reads_within, declared.key.Key.Key}
-use Rattle.cap_summary.specs.{list_any, Item, Answer, ResultKind, ChildAndFd, kind_of, LineEffect, args_name, names_pid}
-use Rattle.cap_summary.specs.{Fd, Same, FdPair, Entry, Step, Checks, listed, fds_of}
-use Rattle.std.specs.Prelude.{◌≡◌, ◌==◌, ◌&&◌, ◌||◌, ℕ, Bool, true, false, List, Option, IfSome, All}
+-- Which processes and which descriptors lines and an effect name.
+use Rattle.std.specs.Prelude.{All, Bool, IfSome, List, Option, false, true, ℕ, ◌&&◌, ◌==◌, ◌||◌, ◌≡◌}
+use Rattle.cap_summary.specs.{Check, declared.effect.Effect.Effect, declared.effect.Row.Row, declared.value.Value.Value}
+use Rattle.cap_summary.specs.{Item, Requirement, Sorted.found, Values.reads_within, declared.key.Key.Key, option_map_or}
+use Rattle.cap_summary.specs.{Answer, ChildAndFd, LineEffect, ResultKind, Same, args_name, kind_of, list_any, names_pid}
+use Rattle.cap_summary.specs.{Checks, Entry, Fd, FdPair, Step, fds_of, listed}
+use Rattle.cap_summary.specs.declared.base.DefaultCells.{DefaultCells}
 
 -- ---- what the lines of a trace name
 
@@ -106,15 +105,6 @@ pub record LineWithin (names : Names) (me : ℕ) (effect : LineEffect) : Type 0 
   pub own : names.pids me ≡ true
   pub child : ChildWithin names effect
   pub fds : All (λ f. names.fds f ≡ true) (fds_of effect)
-
--- ---- preconditions
-
-abbrev pub RefusalsWithin : Names → List UpToThree → Type 0
-RefusalsWithin names refusals = All (λ (refusal : UpToThree). AreWithin (has_cell names) (asks_of refusal)) refusals
-
-pub record PreWithin (names : Names) (pre : Precondition) : Type 0 where
-  pub asks : AreWithin (has_cell names) pre.asks.items
-  pub refusals : RefusalsWithin names pre.refusals.items
 
 -- the descriptors of the checks of a line
 abbrev pub ChecksWithin : Names → Checks → Type 0

@@ -1,9 +1,9 @@
 -- The place after some steps of a node, and walks back from it.
-use Rattle.cap_machine.specs.{Provenance.CellChain, Provenance.ModeChain}
+use Rattle.std.specs.Prelude.{List, length, reverse, take, ℕ, ◌++◌, ◌^◌, ◌≡◌, ◌≤◌}
+use Rattle.cap_machine.specs.Provenance.{CellChain, ModeChain}
 use Rattle.cap_machine.specs.Code.Walks.{cell_found, cell_known, mode_found, mode_known}
-use Rattle.std.specs.Prelude.{◌≤◌, ◌^◌, ◌≡◌, ◌++◌, List, length, take, reverse, ℕ}
-use Rattle.cap_summary.specs.{Step, State, start_state, Cell, Mode, CellWalk, ModeWalk}
-use Rattle.cap_summary.specs.{declared.explaining.PlaceInNode.PlaceInNode}
+use Rattle.cap_summary.specs.{Cell, CellWalk, Mode, ModeWalk, State, Step, start_state}
+use Rattle.cap_summary.specs.declared.explaining.PlaceInNode.{PlaceInNode}
 
 -- the node has so many steps, and not too many to be counted
 pub record IsPlace (place : PlaceInNode) : Type 0 where

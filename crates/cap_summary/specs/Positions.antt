@@ -1,8 +1,7 @@
 -- The findings at a range of positions.
-use Rattle.std.specs.Prelude.{◌≡◌, ◌+◌, ◌<◌, ◌≤◌, ◌==◌, ◌&&◌, ◌⊎◌, ◌∷◌, if◌then◌else◌, ℕ, Bool, List, [], length}
-use Rattle.std.specs.Prelude.{nat_le, filter, map}
-use Rattle.cap_summary.specs.{Found, Finding, Step, State, check, found_at, later, declared.judging.Asked.Asked}
-use Rattle.cap_summary.specs.{declared.judging.Report.Report}
+use Rattle.std.specs.Prelude.{Bool, List, [], filter, if◌then◌else◌, map, ℕ, ◌&&◌, ◌+◌, ◌<◌, ◌==◌, ◌∷◌, ◌≡◌, ◌≤◌, ◌⊎◌}
+use Rattle.cap_summary.specs.{Finding, declared.judging.Asked.Asked, declared.judging.Report.Report, found_at, length}
+use Rattle.cap_summary.specs.{Found, State, Step, check, later, nat_le}
 
 -- a finding is at a position from one to another, both included
 abbrev pub is_at : ℕ → ℕ → Found → Bool

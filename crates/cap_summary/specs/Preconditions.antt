@@ -1,12 +1,10 @@
 -- Under which cells before a segment something is found in it.
-use Rattle.std.specs.{declared.vec.Vec.Vec}
-use Rattle.std.specs.Prelude.{◌≡◌, ◌||◌, ◌+◌, ◌≤◌, ℕ, not, Bool, true, false, List, [], length, Option, Some, None}
-use Rattle.cap_summary.specs.{All, list_any, State, Global, Effects.changed, Keys.Cells, Keys.cells_of, RowSizes.rows_size}
-use Rattle.cap_summary.specs.{declared.ask.Ask.Ask, declared.effect.Effect.Effect}
-use Rattle.cap_summary.specs.{declared.known.Known.Known, declared.precondition.Precondition.Precondition}
-use Rattle.cap_summary.specs.{declared.up_to_three.UpToThree.UpToThree}
-use Rattle.cap_summary.specs.Asks.{any_holds, asks_of, IsOpen, Rises, AreWithin}
-use Rattle.cap_summary.specs.Names.{Names, has_cell, EffectWithin, PreWithin}
+use Rattle.std.specs.Prelude.{All, Bool, List, None, Option, Some, [], false, length, not, true, ℕ, ◌+◌, ◌||◌, ◌≡◌, ◌≤◌}
+use Rattle.cap_summary.specs.{declared.effect.Effect.Effect, declared.precondition.Precondition.Precondition, list_any}
+use Rattle.cap_summary.specs.{Names.EffectWithin, RowSizes.rows_size, declared.ask.Ask.Ask, declared.known.Known.Known}
+use Rattle.cap_summary.specs.{Asks.AreWithin, Asks.AskWithin, Asks.any_holds, Effects.changed, Global, Names.has_cell}
+use Rattle.cap_summary.specs.{Asks.IsOpen, Asks.Rises, Asks.asks_of, Keys.Cells, Keys.cells_of, Names.Names, State, Vec}
+use Rattle.cap_summary.specs.declared.up_to_three.UpToThree.{UpToThree}
 
 -- how many asks and refusals there are
 abbrev pub asks_size : Precondition → ℕ
@@ -30,63 +28,82 @@ pub record RefusalIsOpen (refusal : UpToThree) : Type 0 where
   pub right : (s : State) × (is_wrongful (cells_of s) refusal ≡ false)
   pub wrongful : (s : State) × (is_wrongful (cells_of s) refusal ≡ true)
 
--- whether each ask holds depends on the state, and so does whether each refusal is wrongful
-pub record IsPossible (pre : Precondition) : Type 0 where
-  pub asks : All IsOpen pre.asks.items
-  pub refusals : All RefusalIsOpen pre.refusals.items
+-- ---- what may be said of asks and refusals: that their cells are among those of some names, or that they are open
+pub data Saying : Type 0 where
+  Within : Names → Saying
+  Open : Saying
+
+abbrev pub IsSaid : Saying → Ask → Type 0
+IsSaid (Within names) ask = AskWithin (has_cell names) ask
+IsSaid Open ask = IsOpen ask
+
+abbrev pub IsRefusalSaid : Saying → UpToThree → Type 0
+IsRefusalSaid (Within names) refusal = AreWithin (has_cell names) (asks_of refusal)
+IsRefusalSaid Open refusal = RefusalIsOpen refusal
+
+-- it is said of all that a precondition has
+pub record AllSaid (said : Saying) (pre : Precondition) : Type 0 where
+  pub asks : All (IsSaid said) pre.asks.items
+  pub refusals : All (IsRefusalSaid said) pre.refusals.items
+
+-- this holds of the names, where such are said
+abbrev pub IfNamed : (Names → Type 0) → Saying → Type 0
+IfNamed P (Within names) = P names
+IfNamed P Open = Unit {0}
 
 -- the asks stand in order, and where something is certain nothing else is asked
 pub record IsSettled (pre : Precondition) : Type 0 where
   pub rises : Rises pre.asks.items
   pub alone : pre.certain ≡ true → (pre.asks.items ≡ []) × (pre.refusals.items ≡ [])
 
+-- ---- a list of asks that holds where one of two others does
+pub record IsUnionOf (lefts rights asks : List Ask) : Type 0 where
+  pub rises : Rises asks
+  pub holds : (cells : Cells) → any_holds cells asks ≡ (any_holds cells lefts || any_holds cells rights)
+  pub few : length asks ≤ length lefts + length rights
+  pub each : (said : Saying) → All (IsSaid said) lefts → All (IsSaid said) rights → All (IsSaid said) asks
+
+-- two lists of asks as one, if it depends on the state whether one holds
+abbrev pub IsUnion : List Ask → List Ask → Option (Vec Ask Global) → Type 0
+IsUnion lefts rights None = (s : State) → (any_holds (cells_of s) lefts || any_holds (cells_of s) rights) ≡ true
+IsUnion lefts rights (Some asks) = IsUnionOf lefts rights asks.items
+
 -- ---- a first segment, and a later one whose asks are pulled back through the effect of the first
 
--- with more reasons by the cells after the first segment, which are about cells of some names: at most so many asks and
+-- with more reasons by the cells after the first segment, of which something may be said: at most so many asks and
 -- refusals more, and so many refusals
-pub record IsWithMore (first : Effect) (more : Cells → Bool) (within : Names → Type 0) (size most : ℕ)
+pub record IsWithMore (first : Effect) (more : Cells → Bool) (about : Saying → Type 0) (size most : ℕ)
     (old new : Precondition) : Type 0 where
   pub met : (s : State) → is_met (cells_of s) new ≡ (is_met (cells_of s) old || more (changed first (cells_of s)))
-  pub possible : IsPossible old → IsPossible new
-  pub names : (names : Names) → EffectWithin names first → within names → PreWithin names old → PreWithin names new
+  pub each : (said : Saying) → IfNamed (λ names. EffectWithin names first) said → about said → AllSaid said old
+      → AllSaid said new
   pub few : asks_size new ≤ asks_size old + size
   pub refusals : length new.refusals.items ≤ length old.refusals.items + most
 
--- one of these two lists holds before the first segment where the asks of the later one do after it
-pub record IsPulledBack (first : Effect) (later kept moved : List Ask) : Type 0 where
-  pub holds : (s : State) → (any_holds (cells_of s) kept || any_holds (cells_of s) moved)
-      ≡ any_holds (changed first (cells_of s)) later
-  pub can : All IsOpen later → All IsOpen kept × All IsOpen moved
-  pub names : (names : Names) → EffectWithin names first → AreWithin (has_cell names) later
-      → AreWithin (has_cell names) kept × AreWithin (has_cell names) moved
-  pub few : length kept + length moved ≤ length later
+-- these asks hold before the first segment where those of the later one do after it
+pub record IsPulledBack (first : Effect) (later back : List Ask) : Type 0 where
+  pub holds : (s : State) → any_holds (cells_of s) back ≡ any_holds (changed first (cells_of s)) later
+  pub each : (said : Saying) → IfNamed (λ names. EffectWithin names first) said → All (IsSaid said) later
+      → All (IsSaid said) back
+  pub few : length back ≤ length later
 
--- asks in order that hold where those of the first segment do, or those of the later one after it
-pub record AreAskedByBoth (first : Effect) (own later both : List Ask) : Type 0 where
-  pub rises : Rises both
-  pub holds : (s : State) → any_holds (cells_of s) both
-      ≡ (any_holds (cells_of s) own || any_holds (changed first (cells_of s)) later)
-  pub can : All IsOpen own → All IsOpen later → All IsOpen both
-  pub names : (names : Names) → EffectWithin names first → AreWithin (has_cell names) own
-      → AreWithin (has_cell names) later → AreWithin (has_cell names) both
-  pub few : length both ≤ length own + length later
+-- the asks of the later segment before the first one, in order, if it depends on the state whether one holds
+abbrev pub ArePulledBack : Effect → List Ask → Option (Vec Ask Global) → Type 0
+ArePulledBack first later None = (s : State) → any_holds (changed first (cells_of s)) later ≡ true
+ArePulledBack first later (Some back) = Rises back.items × IsPulledBack first later back.items
 
--- the asks of both, if it depends on the state whether one holds
-abbrev pub IsAskedByOne : Effect → List Ask → List Ask → Option (Vec Ask Global) → Type 0
-IsAskedByOne first own later None =
+-- the asks of the first segment and those of the later one, if it depends on the state whether one holds
+abbrev pub AreAskedByBoth : Effect → List Ask → List Ask → Option (Vec Ask Global) → Type 0
+AreAskedByBoth first own later None =
     (s : State) → (any_holds (cells_of s) own || any_holds (changed first (cells_of s)) later) ≡ true
-IsAskedByOne first own later (Some both) = AreAskedByBoth first own later both.items
+AreAskedByBoth first own later (Some both) =
+    (back : List Ask) × IsPulledBack first later back × IsUnionOf own back both.items
 
 -- something is found where it is in the first segment, or in the later one
 pub record IsAskedByBoth (first : Effect) (own later both : Precondition) : Type 0 where
-  pub met : (s : State) → is_met (cells_of s) both
-      ≡ (is_met (cells_of s) own || is_met (changed first (cells_of s)) later)
-  pub possible : IsPossible own → IsPossible later → IsPossible both
-  pub names : (names : Names) → EffectWithin names first → PreWithin names own → PreWithin names later
-      → PreWithin names both
+  pub with : IsWithMore first (λ cells. is_met cells later) (λ said. AllSaid said later) (asks_size later)
+      (length later.refusals.items) own both
   pub settled : IsSettled both
-  pub few : asks_size both ≤ asks_size own + asks_size later
-  pub refusals : length both.refusals.items ≤ length own.refusals.items + length later.refusals.items
 
 -- the same asks and refusals
 pub record IsSamePrecondition (a b : Precondition) : Type 0 where

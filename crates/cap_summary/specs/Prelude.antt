@@ -1,10 +1,12 @@
 -- The names of std and of the crates below that several files take, passed on from one place. Declares nothing.
-pub use Rattle.std.specs.Prelude.{[], All, Bool, IfNone, IfOk, IfSome, IsPermutation, length, List, None, Option}
-pub use Rattle.std.specs.Prelude.{refl, Some, take, true, unwrap_or, ℕ}
-pub use Rattle.std.specs.declared.{alloc.Global.Global, cmp.Ordering.Ordering, cmp.Ordering.TheVariants.Equal}
-pub use Rattle.std.specs.declared.{cmp.Ordering.TheVariants.Greater, cmp.Ordering.TheVariants.Less, rc.Rc.Rc}
-pub use Rattle.std.specs.{Cmp.Lexicographic.pointwise, Int.bit_at, List.AllZip, List.list_all, List.list_any}
-pub use Rattle.std.specs.{List.Sorted.IsNonDecreasingBy, Option.option_map_or, Option.option_or, Ordering.nat_cmp}
+pub use Rattle.std.specs.{List.Sorted.IsNonDecreasingBy, declared.alloc.Global.Global, declared.cmp.Ordering.Ordering}
+pub use Rattle.std.specs.{Cmp.Lexicographic.pointwise, Option.option_map_or, declared.rc.Rc.Rc, declared.vec.Vec.Vec}
+pub use Rattle.std.specs.{Int.bit_at, List.AllZip, List.list_all, List.list_any, Option.option_or, Ordering.nat_cmp}
+pub use Rattle.std.specs.Prelude.{IsPermutation, is_none, option_copied, slice_index_or}
+pub use Rattle.std.specs.Prelude.{IfNone, IfSome, Option, Result, is_some, option_map, reverse, slice_range, unwrap_or}
+pub use Rattle.std.specs.Prelude.{Bool, IfOk, List, None, OnOk, Some, cond, drop, false, filter, get_or, length, nat_le}
+pub use Rattle.std.specs.Prelude.{All, [], eqb, map, min, not, refl, set, suc, take, true, zero, ℕ}
+pub use Rattle.std.specs.declared.cmp.Ordering.TheVariants.{Equal, Greater, Less}
 pub use Rattle.cap_rights.specs.Rights.{all, has_all, join, none}
 pub use Rattle.cap_trace.specs.declared.calls.ResultKind.TheVariants.{ChildAndFd, Count, Fd, FdPair, Same}
 pub use Rattle.cap_trace.specs.{declared.calls.ResultKind.ResultKind, declared.line.Answer.Answer, Entry.Entry}

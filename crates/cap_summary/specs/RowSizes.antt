@@ -1,5 +1,5 @@
 -- How much rows list.
-use Rattle.std.specs.Prelude.{◌≡◌, ◌+◌, ◌∷◌, ℕ, List, [], length, min, All}
+use Rattle.std.specs.Prelude.{All, List, [], length, min, ℕ, ◌+◌, ◌∷◌, ◌≡◌}
 use Rattle.cap_summary.specs.{Sorted.KeysRise, declared.effect.Row.Row}
 
 -- rows, and the cells that they list

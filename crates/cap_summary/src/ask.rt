@@ -1,12 +1,12 @@
 //! What is asked of the cells before a segment.
 
-ghost use Rattle.std.specs.Prelude.{◌≡◌, ◌<◌, ◌||◌, ℕ, Bool, true, IfSome, IfNone, Some, option_copied};
-ghost use Rattle.cap_summary.specs.{nat_cmp, State, Cell, applied, Keys.Cells, Keys.cells_of, declared.key.Key.Key};
-ghost use Rattle.cap_summary.specs.Asks.{holds, is_sure, certain_at, possible_at, pulled_holds, AskWithin};
-ghost use Rattle.cap_summary.specs.Asks.{IfAsked, IsOpen, place, IsAtPlace};
-ghost use Rattle.cap_summary.specs.Effects.{row_cell, cell_in, changed, listed_value};
-ghost use Rattle.cap_summary.specs.Names.{Names, has_cell, RowWithin, EffectWithin};
-ghost use Rattle.cap_summary.specs.Tests.{has_kind, lacks, passes, holding};
+ghost use Rattle.std.specs.Prelude.{Bool, IfNone, IfSome, Some, option_copied, true, ℕ, ◌<◌, ◌||◌, ◌≡◌};
+ghost use Rattle.cap_summary.specs.{Cell, Keys.Cells, Keys.cells_of, State, applied, declared.key.Key.Key, nat_cmp};
+ghost use Rattle.cap_summary.specs.Effects.{cell_in, changed, listed_value, row_cell};
+ghost use Rattle.cap_summary.specs.Asks.{AskWithin, IfAsked, IsAtPlace, certain_at, is_sure, possible_at, pulled_holds};
+ghost use Rattle.cap_summary.specs.Asks.{IsOpen, holds, place};
+ghost use Rattle.cap_summary.specs.Tests.{has_kind, holding, lacks, passes};
+ghost use Rattle.cap_summary.specs.Names.{EffectWithin, Names, RowWithin, has_cell};
 
 use crate::view::Seen;
 use crate::{Effect, Key, Kinds, Row, Value, cell_of_mode};
@@ -84,9 +84,11 @@ impl Ask {
         ensures names { (names : ℕ → Key → Bool) → names self.now.pid self.now.key ≡ true
             → names result.pid result.key ≡ true }
     {
+        let kinds = self.kinds.join(&other.kinds);
+        let rights = self.rights.join(&other.rights);
         Ask {
-            kinds: self.kinds.join(&other.kinds),
-            rights: self.rights.join(&other.rights),
+            kinds,
+            rights,
             ..*self
         }
     }
@@ -147,9 +149,11 @@ impl Ask {
     fn before_op(&self, op: &Op) -> Ask
         ensures passes { (c : Cell) → passes result c ≡ passes self.now (applied op.now c) }
     {
+        let kinds = self.kinds_before(op, self.rights);
+        let lacking = self.kinds_before(op, RightSet::none());
         Ask {
-            kinds: self.kinds_before(op, self.rights),
-            lacking: self.kinds_before(op, RightSet::none()),
+            kinds,
+            lacking,
             ..*self
         }
     }

@@ -1,8 +1,8 @@
 //! The cells of a process that aren't listed.
 
-ghost use Rattle.std.specs.Prelude.{◌≡◌, ◌||◌, ℕ, true, false, None};
+ghost use Rattle.std.specs.Prelude.{None, false, true, ℕ, ◌||◌, ◌≡◌};
 ghost use Rattle.cap_summary.specs.{Keys.Cells, Names.Names, Names.others_within};
-ghost use Rattle.cap_summary.specs.Effects.{is_own, passed, is_from, others_cell, base_cell};
+ghost use Rattle.cap_summary.specs.Effects.{base_cell, is_from, is_own, others_cell, passed};
 
 use cap_trace::{Fd, Pid};
 

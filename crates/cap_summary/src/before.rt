@@ -1,8 +1,8 @@
 //! The state after a start and effects, and what holds there.
 
 ghost use Rattle.std.specs.Prelude.{◌≡◌};
-ghost use Rattle.cap_summary.specs.{list_any, findings_of, Asks.holds, Asks.any_holds, Effects.state_before};
-ghost use Rattle.cap_summary.specs.{Keys.cells_of, Preconditions.is_wrongful, Preconditions.is_met};
+ghost use Rattle.cap_summary.specs.{Effects.state_before, Preconditions.is_met, Preconditions.is_wrongful, findings_of};
+ghost use Rattle.cap_summary.specs.{Asks.any_holds, Asks.holds, Keys.cells_of, list_any};
 
 use crate::view::Seen;
 use crate::{Ask, Effect, Key, Precondition, UpToThree, cell_of_mode, mode_of_cell};

@@ -1,13 +1,12 @@
 //! The effect of two segments, one after the other.
 
-ghost use Rattle.std.specs.Prelude.{◌≡◌, ℕ, false, true, is_none, Some, IfSome, IfOk, option_copied};
-ghost use Rattle.cap_summary.specs.{option_map_or, Closed, Keys.Cells, Sorted.found, Sorted.Rises, Values.read};
-ghost use Rattle.cap_summary.specs.{declared.key.Key.Key};
-ghost use Rattle.cap_summary.specs.Composing.{IsHandedSo, IsComposedSo, IsJoinedEffect, IsOldAt, IsReplaced};
-ghost use Rattle.cap_summary.specs.Effects.{passed, is_from, base_cell, row_cell, changed};
-ghost use Rattle.cap_summary.specs.{Effects.base_leaves, Effects.row_leaves, Effects.leaves};
-ghost use Rattle.cap_summary.specs.Names.{Names, others_within, mode_within, ListWithin, RowWithin, IsRowWithin};
-ghost use Rattle.cap_summary.specs.Names.{ReadWithin};
+ghost use Rattle.std.specs.Prelude.{IfOk, IfSome, Some, false, is_none, option_copied, true, ℕ, ◌≡◌};
+ghost use Rattle.cap_summary.specs.{Names.IsRowWithin, Names.mode_within, Names.others_within, declared.key.Key.Key};
+ghost use Rattle.cap_summary.specs.{Names.ListWithin, Names.ReadWithin, Names.RowWithin, Sorted.Rises, option_map_or};
+ghost use Rattle.cap_summary.specs.{Closed, Keys.Cells, Names.Names, Sorted.found, Values.read};
+ghost use Rattle.cap_summary.specs.Effects.{base_cell, base_leaves, changed, is_from, leaves, row_cell, row_leaves};
+ghost use Rattle.cap_summary.specs.Effects.{passed};
+ghost use Rattle.cap_summary.specs.Composing.{IsComposedSo, IsHandedSo, IsJoinedEffect, IsOldAt, IsReplaced};
 
 use crate::base::lower_of;
 use crate::reading::counted;

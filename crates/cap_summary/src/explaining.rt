@@ -1,15 +1,13 @@
 //! What one step of a summary rests on.
 
-ghost use Rattle.cap_machine.specs.{History.cell_after, History.mode_after};
-ghost use Rattle.cap_machine.specs.{declared.provenance.CellProvenance.CellProvenance};
-ghost use Rattle.cap_machine.specs.{declared.provenance.ModeProvenance.ModeProvenance};
-ghost use Rattle.cap_machine.specs.Explain.{mode_matters, mode_or_unsure, explained_by};
+ghost use Rattle.std.specs.Prelude.{IfOk, None, OnOk, Some, [], if◌then◌else◌, length, map, true, ◌+◌, ◌<◌, ◌≡◌, ◌≤◌};
+ghost use Rattle.cap_summary.specs.{Positions.positions, Positions.within, Stands.summed_up, explanation, start_state};
+ghost use Rattle.cap_summary.specs.{Check, check, explained, listed, option_map};
+ghost use Rattle.cap_summary.specs.PlaceInNode.{IsPlace, history, state_at_start};
+ghost use Rattle.cap_machine.specs.{Explain.mode_or_unsure, declared.provenance.CellProvenance.CellProvenance};
+ghost use Rattle.cap_machine.specs.{Explain.explained_by, Explain.mode_matters, History.cell_after, History.mode_after};
+ghost use Rattle.cap_machine.specs.declared.provenance.ModeProvenance.{ModeProvenance};
 ghost use Rattle.cap_machine.specs.Provenance.{cell_chain, cell_chain_of, mode_chain, mode_chain_of};
-ghost use Rattle.std.specs.Prelude.{◌≡◌, ◌+◌, ◌<◌, ◌≤◌, if◌then◌else◌, [], length, map, option_map, true, Some, None};
-ghost use Rattle.std.specs.Prelude.{IfOk, OnOk};
-ghost use Rattle.cap_summary.specs.{Check, listed, explained, explanation, start_state, check, Positions.within};
-ghost use Rattle.cap_summary.specs.{Positions.positions, Stands.summed_up};
-ghost use Rattle.cap_summary.specs.PlaceInNode.{IsPlace, state_at_start, history};
 
 use crate::judging::{Asked, note_asked};
 use crate::node::Node;
@@ -154,15 +152,13 @@ pub fn explain(
     ensures { IfOk result (λ found. option_map explained_by found
         ≡ explanation (start_state start.now) (summed_up summary.now) position) }
 {
-    if position == 0 || position > summary.node.len() {
+    let node = &*summary.node;
+    if position == 0 || position > node.len() {
         return Ok(None);
     }
-    let place = PlaceInNode {
-        start,
-        node: &*summary.node,
-        count: position - 1,
-    };
-    let step = summary.node.step(position - 1);
+    let count = position - 1;
+    let place = PlaceInNode { start, node, count };
+    let step = node.step(count);
     let explanation = place.explain(alloc, step)?;
     Ok(Some(explanation))
 }

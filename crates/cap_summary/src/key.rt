@@ -1,7 +1,7 @@
 //! Keys: what is known of a process, descriptor by descriptor, and its mode.
 
-ghost use Rattle.std.specs.Prelude.{◌≡◌, ◌<◌, ◌^◌};
-ghost use Rattle.cap_summary.specs.{Asks.key_number, Keys.mode_cell, Keys.cell_mode};
+ghost use Rattle.std.specs.Prelude.{◌<◌, ◌^◌, ◌≡◌};
+ghost use Rattle.cap_summary.specs.{Asks.key_number, Keys.cell_mode, Keys.mode_cell};
 
 use cap_machine::{Cell, Mode, OnExec};
 use cap_rights::RightSet;

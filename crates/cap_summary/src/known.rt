@@ -56,10 +56,10 @@ impl Known {
         }
         let settled = precondition.settled(alloc)?;
         let effect = Rc::new(alloc, effect)?;
-        let precondition = Rc::new(alloc, settled)?;
+        let shared = Rc::new(alloc, settled)?;
         Ok(Known {
             effect,
-            precondition,
+            precondition: shared,
         })
     }
 

@@ -27,10 +27,7 @@ impl LastSteps {
     pub(crate) fn of(&self, pid: Pid) -> usize
         ensures { result ≡ last_of self.now pid }
     {
-        match self.positions.get(pid as usize) {
-            Some(position) => *position,
-            None => 0,
-        }
+        self.positions.get(pid as usize).copied().unwrap_or(0)
     }
 
     /// Notes a step of a process at a position.

@@ -1,12 +1,11 @@
 //! The effect of one line.
 
-ghost use Rattle.std.specs.Prelude.{◌≡◌, ◌==◌, if◌then◌else◌, ℕ, true, false, Some, None, unwrap_or, IfOk, OnOk};
-ghost use Rattle.std.specs.Prelude.{All};
-ghost use Rattle.cap_summary.specs.{fds_spelled, is_child, Keys.Cells, Sorted.found, Values.read, declared.key.Key.Key};
-ghost use Rattle.cap_summary.specs.Effects.{own_row, changed, leaves, row_cell, row_leaves, LineLeaves, LeavesThenLine};
-ghost use Rattle.cap_summary.specs.Effects.{IsThenLine, IsPut, LeavesPut, IsStarted, sets_cells, is_cell, line_after};
-ghost use Rattle.cap_summary.specs.Names.{Names, IsListedWithin, ListWithin, RowWithin};
-ghost use Rattle.cap_summary.specs.Names.{RowsWithin, EffectWithin, LineWithin};
+ghost use Rattle.std.specs.Prelude.{All, IfOk, None, OnOk, Some, false, if◌then◌else◌, true, unwrap_or, ℕ, ◌==◌, ◌≡◌};
+ghost use Rattle.cap_summary.specs.{Keys.Cells, Sorted.found, Values.read, declared.key.Key.Key, fds_spelled, is_child};
+ghost use Rattle.cap_summary.specs.Effects.{IsThenLine, LeavesThenLine, LineLeaves, line_after, row_leaves, sets_cells};
+ghost use Rattle.cap_summary.specs.Effects.{IsPut, IsStarted, LeavesPut, changed, is_cell, leaves, own_row, row_cell};
+ghost use Rattle.cap_summary.specs.Names.{EffectWithin, IsListedWithin, LineWithin, ListWithin, RowWithin, RowsWithin};
+ghost use Rattle.cap_summary.specs.Names.{Names};
 
 use crate::{
     Base, DefaultCells, Effect, Key, Map, Passing, Row, SharedOp, SharedRow, Value, cell_of_mode,

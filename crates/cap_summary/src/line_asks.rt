@@ -1,11 +1,11 @@
 //! What one line asks of the cells before it.
 
-ghost use Rattle.std.specs.Prelude.{◌≡◌, ◌≤◌, ◌&&◌, ◌||◌, if◌then◌else◌, true, length};
-ghost use Rattle.cap_summary.specs.{list_any, Check, LimitWord, State, listed, Tests.has_kind, Tests.lacks};
-ghost use Rattle.cap_summary.specs.{declared.key.Key.Key, Keys.Cells, Keys.cells_of, Keys.mode_cell};
-ghost use Rattle.cap_summary.specs.Asks.{holds, any_holds, asks_of, AreWithin};
-ghost use Rattle.cap_summary.specs.LineAsks.{is_lacked, asks_in, IsAskedBy, is_refusal, refusals_in};
-ghost use Rattle.cap_summary.specs.Names.{Names, has_cell, ChecksWithin, DemandWithin};
+ghost use Rattle.std.specs.Prelude.{if◌then◌else◌, length, true, ◌&&◌, ◌||◌, ◌≡◌, ◌≤◌};
+ghost use Rattle.cap_summary.specs.{Keys.cells_of, Keys.mode_cell, Tests.has_kind, Tests.lacks, declared.key.Key.Key};
+ghost use Rattle.cap_summary.specs.{Check, Keys.Cells, LimitWord, State, findings_of, list_any, listed};
+ghost use Rattle.cap_summary.specs.Names.{ChecksWithin, DemandWithin, Names, has_cell};
+ghost use Rattle.cap_summary.specs.Asks.{AreWithin, AskWithin, any_holds, asks_of, holds};
+ghost use Rattle.cap_summary.specs.LineAsks.{asked_holds, asks_in, has_any, is_lacked, is_refusal, refusals_in};
 
 use crate::{Ask, Key, Kinds, UpToThree};
 use cap_machine::{Check, Checks, Class, Reply, Requirement};
@@ -49,7 +49,7 @@ fn of_mode(me: Pid, asked: bool, kinds: Kinds) -> UpToThree
 fn lacking(me: Pid, fd: Fd, kinds: Kinds, rights: &RightSet) -> Ask
     ensures holds { (cells : Cells) → holds cells result
         ≡ (has_kind kinds (cells me (Key.Fd fd)) || lacks rights.now (cells me (Key.Fd fd))) }
-    ensures cell { (result.pid ≡ me) × (result.key ≡ Key.Fd fd) }
+    ensures names { (names : Names) → names.pids me ≡ true → names.fds fd ≡ true → AskWithin (has_cell names) result }
 {
     Ask {
         pid: me,
@@ -66,7 +66,8 @@ fn lacking(me: Pid, fd: Fd, kinds: Kinds, rights: &RightSet) -> Ask
 fn of_check(me: Pid, check: &Check, refused: bool) -> Ask
     ensures holds { (word : LimitWord) (cells : Cells)
         → holds cells result ≡ is_lacked refused word check.now (cells me (Key.Fd check.now.fd)) }
-    ensures cell { (result.pid ≡ me) × (result.key ≡ Key.Fd check.now.fd) }
+    ensures names { (names : Names) → names.pids me ≡ true → names.fds check.now.fd ≡ true
+        → AskWithin (has_cell names) result }
 {
     if !refused {
         return lacking(me, check.fd, Kinds::CLOSED, &check.needs);
@@ -101,7 +102,7 @@ fn with_checks(mode: UpToThree, me: Pid, checks: &Checks, refused: bool) -> UpTo
 impl LineAsks {
     /// What a line with this requirement of process `me` asks.
     pub fn of_line(me: Pid, requirement: &Requirement) -> LineAsks
-        ensures holds { IsAskedBy requirement.now me result }
+        ensures holds { (s : State) → asked_holds (cells_of s) result ≡ has_any (findings_of requirement.now me s) }
         ensures refusals { refusals_in result ≤ (if is_refusal requirement.now.reply then 1 else 0) }
         ensures names { (names : Names) → DemandWithin names me requirement.now
             → AreWithin (has_cell names) (asks_in result) }

@@ -312,19 +312,22 @@ impl Node {
                 judge_run(alloc, run, before, at, asked, report)
             }
             Content::Both(a, b) => {
+                let left = &**a;
+                let right = &**b;
                 let asks = known.precondition.asks.len();
                 if !asked.are_at_most(asks / ASKS_A_POSITION)
                     && !before.meets(&known.precondition)
                 {
                     return Ok(());
                 }
-                a.resolve(alloc, before, at, asked, report)?;
+                left.resolve(alloc, before, at, asked, report)?;
                 if report.found.len() > asked.most {
                     return Ok(());
                 }
-                let first = a.known().unwrap();
-                let between = Before::After(&*before, &first.effect);
-                b.resolve(alloc, &between, at + a.len(), asked, report)
+                let first = left.known().unwrap();
+                let effect = &*first.effect;
+                let between = Before::After(&*before, effect);
+                right.resolve(alloc, &between, at + left.len(), asked, report)
             }
         }
     }
@@ -338,8 +341,10 @@ impl Node {
         match &self.content {
             Content::Run(run) => last.note_run(run, at),
             Content::Both(a, b) => {
-                a.note_last(at, last)?;
-                b.note_last(at + a.len(), last)?;
+                let left = &**a;
+                let right = &**b;
+                left.note_last(at, last)?;
+                right.note_last(at + left.len(), last)?;
                 Ok(())
             }
         }
@@ -373,8 +378,10 @@ impl Node {
                 judge_in_order(run, machine, at, last, asked, &mut report.found)
             }
             Content::Both(a, b) => {
-                a.judge(machine, at, last, asked, report)?;
-                b.judge(machine, at + a.len(), last, asked, report)
+                let left = &**a;
+                let right = &**b;
+                left.judge(machine, at, last, asked, report)?;
+                right.judge(machine, at + left.len(), last, asked, report)
             }
         }
     }

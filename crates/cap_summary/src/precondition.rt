@@ -1,15 +1,14 @@
 //! Under which states before a segment something is found in it.
 
-ghost use Rattle.std.specs.Prelude.{◌≡◌, ◌+◌, ◌≤◌, ◌||◌, false, true, [], length, IfOk, IfSome, IfNone, OnOk};
-ghost use Rattle.std.specs.Prelude.{option_copied};
-ghost use Rattle.cap_summary.specs.{list_any, State, Effects.changed, Keys.Cells, Keys.cells_of, Sorted.found};
-ghost use Rattle.cap_summary.specs.Asks.{any_holds, asks_of, AreWithin, Rises};
+ghost use Rattle.std.specs.Prelude.{All, IfOk, OnOk, [], false, length, option_copied, true, ◌≡◌, ◌≤◌};
+ghost use Rattle.cap_summary.specs.{Keys.Cells, Keys.cells_of, Names.has_cell, Sorted.found, State, list_any};
 ghost use Rattle.cap_summary.specs.LineAsks.{asked_holds, asks_in, refusals_in};
-ghost use Rattle.cap_summary.specs.Names.{Names, has_cell, RefusalsWithin, PreWithin};
-ghost use Rattle.cap_summary.specs.Preconditions.{is_met, is_wrongful, IsWithMore, IsSettled, IsPossible, IsPulledBack};
-ghost use Rattle.cap_summary.specs.Preconditions.{IsAskedByOne, IsAskedByBoth, IsSamePrecondition, asks_size};
+ghost use Rattle.cap_summary.specs.Preconditions.{AreAskedByBoth, ArePulledBack, IsAskedByBoth, IsSamePrecondition};
+ghost use Rattle.cap_summary.specs.Preconditions.{IsRefusalSaid, IsSettled, IsWithMore, Saying, asks_size, is_wrongful};
+ghost use Rattle.cap_summary.specs.Preconditions.{AllSaid, IfNamed, is_met};
+ghost use Rattle.cap_summary.specs.Asks.{AreWithin, Rises, any_holds, asks_of};
 
-use crate::asks::{in_order, unite};
+use crate::asks::{in_order, unite, unite_unordered};
 use crate::{Ask, Effect, LineAsks, Pulled, Row, UpToThree};
 use cap_trace::Pid;
 use cap_tree::NoMemory;
@@ -28,15 +27,6 @@ pub struct Precondition {
     pub refusals: Vec<UpToThree>,
 }
 
-/// What the asks of a later segment ask before a first one.
-#[derive(Drop)]
-struct PulledAsks {
-    /// At the places that they had, in order.
-    kept: Vec<Ask>,
-    /// At other places, in no order.
-    moved: Vec<Ask>,
-}
-
 /// The row of a process, if it has one, where that of the last process that was looked up is at hand.
 #[inline(always)]
 fn row_of<'a>(first: &'a Effect, pid: Pid, last: Pid, row: Option<&'a Row>) -> Option<&'a Row>
@@ -46,14 +36,11 @@ fn row_of<'a>(first: &'a Effect, pid: Pid, last: Pid, row: Option<&'a Row>) -> O
     if pid == last { row } else { first.row(pid) }
 }
 
-/// What these asks ask before an earlier segment; `None` where one of them holds in every state.
-fn pulled_asks(alloc: Global, first: &Effect, asks: &[Ask]) -> Result<Option<PulledAsks>, NoMemory>
+/// What these asks ask before an earlier segment, in order; `None` where one of them holds in every state. Those at the
+/// places that they had are kept in order.
+fn pulled_asks(alloc: Global, first: &Effect, asks: &[Ask]) -> Result<Option<Vec<Ask>>, NoMemory>
     requires { Rises asks.now }
-    ensures always { IfOk result (λ pulled. IfNone pulled ((s : State)
-        → any_holds (changed first.now (cells_of s)) asks.now ≡ true)) }
-    ensures asks { IfOk result (λ pulled. IfSome pulled
-        (λ pulled. IsPulledBack first.now asks.now pulled.kept.items pulled.moved.items)) }
-    ensures rises { IfOk result (λ pulled. IfSome pulled (λ pulled. Rises pulled.kept.items)) }
+    ensures { IfOk result (ArePulledBack first.now asks.now) }
 {
     let mut kept = Vec::with_capacity(alloc, asks.len())?;
     let mut moved = Vec::new(alloc);
@@ -75,7 +62,7 @@ fn pulled_asks(alloc: Global, first: &Effect, asks: &[Ask]) -> Result<Option<Pul
             },
         }
     }
-    Ok(Some(PulledAsks { kept, moved }))
+    unite_unordered(alloc, kept, moved)
 }
 
 /// The asks of a segment and those of a later one, which are pulled back through the effect of the first, in order; `None`
@@ -88,29 +75,19 @@ fn asks_of_both(
 ) -> Result<Option<Vec<Ask>>, NoMemory>
     requires own { Rises own.now }
     requires later { Rises later.now }
-    ensures { IfOk result (IsAskedByOne first.now own.now later.now) }
+    ensures { IfOk result (AreAskedByBoth first.now own.now later.now) }
 {
-    let Some(pulled) = pulled_asks(alloc, first, later)? else {
+    let Some(back) = pulled_asks(alloc, first, later)? else {
         return Ok(None);
     };
-    if pulled.moved.is_empty() {
-        return unite(alloc, own, &pulled.kept);
-    }
-    let Some(moved) = in_order(alloc, pulled.moved)? else {
-        return Ok(None);
-    };
-    match unite(alloc, &pulled.kept, &moved)? {
-        Some(later) => unite(alloc, own, &later),
-        None => Ok(None),
-    }
+    unite(alloc, own, &back)
 }
 
 impl Precondition {
     /// Nothing is found in any state. It has room for so many asks.
     pub fn never(alloc: Global, room: usize) -> Result<Precondition, NoMemory>
         ensures met { IfOk result (λ pre. (s : State) → is_met (cells_of s) pre ≡ false) }
-        ensures possible { IfOk result IsPossible }
-        ensures names { IfOk result (λ pre. (names : Names) → PreWithin names pre) }
+        ensures each { IfOk result (λ pre. (said : Saying) → AllSaid said pre) }
         ensures nothing { IfOk result (λ pre. (pre.certain ≡ false) × (pre.asks.items ≡ []) × (pre.refusals.items ≡ [])) }
     {
         Ok(Precondition {
@@ -124,8 +101,7 @@ impl Precondition {
     fn always(alloc: Global) -> Precondition
         ensures met { (cells : Cells) → is_met cells result ≡ true }
         ensures settled { IsSettled result }
-        ensures possible { IsPossible result }
-        ensures names { (names : Names) → PreWithin names result }
+        ensures each { (said : Saying) → AllSaid said result }
         ensures nothing { asks_size result ≡ 0 }
     {
         Precondition {
@@ -152,7 +128,7 @@ impl Precondition {
     /// Something is also found where one of these holds after an earlier segment.
     fn put_after(&mut self, first: &Effect, asks: &[Ask]) -> Result<(), NoMemory>
         ensures { OnOk result (IsWithMore first.now (λ cells. any_holds cells asks.now)
-            (λ names. AreWithin (has_cell names) asks.now) (length asks.now) 0 self.old self.new) }
+            (IfNamed (λ names. AreWithin (has_cell names) asks.now)) (length asks.now) 0 self.old self.new) }
     {
         for ask in asks {
             match ask.before(first) {
@@ -167,7 +143,7 @@ impl Precondition {
     /// Something is also found where a refusal is wrongful after an earlier segment, which it is unless one of these holds.
     fn refuse_after(&mut self, first: &Effect, unless: &UpToThree) -> Result<(), NoMemory>
         ensures more { OnOk result (IsWithMore first.now (λ cells. is_wrongful cells unless.now)
-            (λ names. AreWithin (has_cell names) (asks_of unless.now)) 1 1 self.old self.new) }
+            (IfNamed (λ names. AreWithin (has_cell names) (asks_of unless.now))) 1 1 self.old self.new) }
         ensures asks { self.new.asks ≡ self.old.asks }
     {
         let pulled = unless.before(first);
@@ -188,7 +164,8 @@ impl Precondition {
     /// Something is also found where it is in a line after an earlier segment.
     pub fn put_line(&mut self, first: &Effect, asks: &LineAsks) -> Result<(), NoMemory>
         ensures { OnOk result (IsWithMore first.now (λ cells. asked_holds cells asks.now)
-            (λ names. AreWithin (has_cell names) (asks_in asks.now)) 3 (refusals_in asks.now) self.old self.new) }
+            (IfNamed (λ names. AreWithin (has_cell names) (asks_in asks.now))) 3 (refusals_in asks.now) self.old
+            self.new) }
     {
         match asks {
             LineAsks::Always => {
@@ -203,7 +180,8 @@ impl Precondition {
     /// Something is also found where one of these refusals is wrongful after an earlier segment.
     fn refuse_all_after(&mut self, first: &Effect, refusals: &[UpToThree]) -> Result<(), NoMemory>
         ensures more { OnOk result (IsWithMore first.now (λ cells. list_any (is_wrongful cells) refusals.now)
-            (λ names. RefusalsWithin names refusals.now) (length refusals.now) (length refusals.now) self.old self.new) }
+            (λ said. All (IsRefusalSaid said) refusals.now) (length refusals.now) (length refusals.now) self.old
+            self.new) }
         ensures asks { self.new.asks ≡ self.old.asks }
     {
         for refusal in refusals {
@@ -226,12 +204,13 @@ impl Precondition {
         if self.certain || later.certain {
             return Ok(Precondition::always(alloc));
         }
-        let Some(asks) = asks_of_both(alloc, &self.asks, first, &later.asks)? else {
+        let (own, theirs) = (self.asks.as_slice(), later.asks.as_slice());
+        let Some(asks) = asks_of_both(alloc, own, first, theirs)? else {
             return Ok(Precondition::always(alloc));
         };
         let room = self.refusals.len().saturating_add(later.refusals.len());
         let mut refusals = Vec::with_capacity(alloc, room)?;
-        refusals.extend_from_slice(&self.refusals)?;
+        refusals.extend_from_slice(self.refusals.as_slice())?;
         let mut both = Precondition {
             certain: false,
             asks,
@@ -248,8 +227,7 @@ impl Precondition {
     pub fn settled(self, alloc: Global) -> Result<Precondition, NoMemory>
         ensures met { IfOk result (λ pre. (s : State) → is_met (cells_of s) pre ≡ is_met (cells_of s) self) }
         ensures settled { IfOk result IsSettled }
-        ensures possible { IfOk result (λ pre. IsPossible self → IsPossible pre) }
-        ensures names { IfOk result (λ pre. (names : Names) → PreWithin names self → PreWithin names pre) }
+        ensures each { IfOk result (λ pre. (said : Saying) → AllSaid said self → AllSaid said pre) }
         ensures few { IfOk result (λ pre. asks_size pre ≤ asks_size self) }
         ensures refusals { IfOk result (λ pre. length pre.refusals.items ≤ length self.refusals.items) }
     {

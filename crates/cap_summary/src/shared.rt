@@ -1,7 +1,7 @@
 //! Ops that values share, and rows that effects share.
 
-ghost use Rattle.std.specs.Prelude.{◌≡◌, ◌==◌, if◌then◌else◌, ℕ, Some, IfOk};
-ghost use Rattle.cap_summary.specs.{Sorted.found};
+ghost use Rattle.std.specs.Prelude.{IfOk, Some, if◌then◌else◌, ℕ, ◌==◌, ◌≡◌};
+ghost use Rattle.cap_summary.specs.Sorted.{found};
 
 use crate::{Row, Value};
 use cap_machine::Op;

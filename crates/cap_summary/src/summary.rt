@@ -1,10 +1,9 @@
 //! The summary of a segment of a trace.
 
-ghost use Rattle.std.specs.Prelude.{◌≡◌, ◌+◌, ◌*◌, ◌^◌, ◌<◌, ◌≤◌, true, is_some, length, IfOk, OnOk, IfSome, IfNone};
-ghost use Rattle.std.specs.Prelude.{option_copied};
-ghost use Rattle.cap_summary.specs.{check, start_state, Kept.NameOrRefuseMany, Kept.IsKept, Positions.within};
-ghost use Rattle.cap_summary.specs.{Positions.positions, Stands.Stands, Stands.summed_up, Stands.kept_of};
-ghost use Rattle.cap_summary.specs.{Composing.NodesCompose, Composing.IfKept, Preconditions.IsSamePrecondition};
+ghost use Rattle.std.specs.Prelude.{IfNone, IfOk, IfSome, OnOk, is_some, length, true, ◌*◌, ◌+◌, ◌<◌, ◌^◌, ◌≡◌, ◌≤◌};
+ghost use Rattle.cap_summary.specs.{Composing.NodesCompose, Kept.NameOrRefuseMany, Preconditions.IsSamePrecondition};
+ghost use Rattle.cap_summary.specs.{Composing.IfKept, Positions.positions, Positions.within, Stands.summed_up, check};
+ghost use Rattle.cap_summary.specs.{Kept.IsKept, Stands.Stands, Stands.kept_of, option_copied, start_state};
 
 use crate::explaining::judge_alone;
 use crate::judging::Asked;

@@ -1,9 +1,9 @@
 //! Lists of at most three asks.
 
-ghost use Rattle.std.specs.Prelude.{◌≡◌, ◌<◌, ◌≤◌, ◌++◌, ◌∷◌, [], length, true, All, IfSome, IfNone};
-ghost use Rattle.cap_summary.specs.{list_all, State, Effects.changed, Keys.cells_of, Tests.each_kind};
-ghost use Rattle.cap_summary.specs.Asks.{any_holds, asks_of, IsOpen, are_sure_at, one_is_certain};
-ghost use Rattle.cap_summary.specs.Preconditions.{IsPulledBack};
+ghost use Rattle.std.specs.Prelude.{All, IfNone, IfSome, [], length, true, ◌++◌, ◌<◌, ◌||◌, ◌∷◌, ◌≡◌, ◌≤◌};
+ghost use Rattle.cap_summary.specs.{Asks.are_sure_at, Asks.is_certain_in, Effects.changed, Preconditions.IsPulledBack};
+ghost use Rattle.cap_summary.specs.{Asks.AreWithin, Asks.AskWithin, Asks.any_holds, Keys.cells_of, Names.has_cell};
+ghost use Rattle.cap_summary.specs.{Asks.IsOpen, Asks.asks_of, Asks.holds, Keys.Cells, Names.Names, State, list_any};
 
 use crate::{Ask, Effect, Key, Kinds, Pulled};
 use cap_rights::RightSet;
@@ -45,7 +45,11 @@ impl UpToThree {
     #[inline(always)]
     pub(crate) fn push(&mut self, ask: Ask)
         requires { length (asks_of self.old) < 3 }
-        ensures { asks_of self.new ≡ asks_of self.old ++ ask ∷ [] }
+        ensures asks { asks_of self.new ≡ asks_of self.old ++ ask ∷ [] }
+        ensures holds { (cells : Cells) → any_holds cells (asks_of self.new)
+            ≡ (any_holds cells (asks_of self.old) || holds cells ask) }
+        ensures names { (names : Names) → AreWithin (has_cell names) (asks_of self.old)
+            → AskWithin (has_cell names) ask → AreWithin (has_cell names) (asks_of self.new) }
     {
         self.asks[self.count] = ask;
         self.count += 1;
@@ -55,7 +59,7 @@ impl UpToThree {
     #[inline(always)]
     pub(crate) fn before(&self, first: &Effect) -> Option<UpToThree>
         ensures always { IfNone result ((s : State) → any_holds (changed first.now (cells_of s)) (asks_of self.now) ≡ true) }
-        ensures asks { IfSome result (λ before. IsPulledBack first.now (asks_of self.now) (asks_of before) []) }
+        ensures asks { IfSome result (λ before. IsPulledBack first.now (asks_of self.now) (asks_of before)) }
         ensures open { IfSome result (λ before. All IsOpen (asks_of before)) }
     {
         let mut before = UpToThree::none();
@@ -71,7 +75,7 @@ impl UpToThree {
 
     /// Whether each cell passes one of these that is about the cell of an ask.
     fn are_sure_at(&self, at: &Ask) -> bool
-        ensures { result ≡ list_all (are_sure_at (asks_of self.now) at.now.pid at.now.key) each_kind }
+        ensures { result ≡ is_certain_in (asks_of self.now) at.now }
     {
         let mut kinds = Kinds::NONE;
         for ask in self.as_slice() {
@@ -84,7 +88,7 @@ impl UpToThree {
 
     /// Whether one of these holds in every state.
     pub(crate) fn is_certain(&self) -> bool
-        ensures { result ≡ one_is_certain (asks_of self.now) }
+        ensures { result ≡ list_any (is_certain_in (asks_of self.now)) (asks_of self.now) }
     {
         self.as_slice().iter().any(|ask| self.are_sure_at(ask))
     }

@@ -1,8 +1,7 @@
 //! Walks back through the steps of a node.
 
-ghost use Rattle.std.specs.Prelude.{◌≡◌, ◌+◌, ◌^◌, ◌<◌, ◌≤◌, ◌∷◌, [], ℕ, List, length, take, slice_index_or, true};
-ghost use Rattle.std.specs.Prelude.{OnOk};
-ghost use Rattle.cap_summary.specs.{Step, State, values, Knows.Knows};
+ghost use Rattle.std.specs.Prelude.{List, OnOk, [], length, take, true, ℕ, ◌+◌, ◌<◌, ◌^◌, ◌∷◌, ◌≡◌, ◌≤◌};
+ghost use Rattle.cap_summary.specs.{Knows.Knows, State, Step, slice_index_or, values};
 ghost use Rattle.cap_summary.specs.PlaceInNode.{Origin, Passes, cell_seen, mode_seen};
 
 use crate::node::{Content, Node};
@@ -127,12 +126,14 @@ impl Node {
         match &self.content {
             Content::Run(run) => walk_run(walk, at, &run[..count]),
             Content::Both(a, b) => {
-                let left = a.len();
-                if count <= left {
-                    return a.walk(walk, at, count);
+                let left = &**a;
+                let right = &**b;
+                let len = left.len();
+                if count <= len {
+                    return left.walk(walk, at, count);
                 }
-                b.walk(walk, at + left, count - left)?;
-                a.walk(walk, at, left)
+                right.walk(walk, at + len, count - len)?;
+                left.walk(walk, at, len)
             }
         }
     }

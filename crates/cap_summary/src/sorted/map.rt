@@ -1,8 +1,6 @@
 //! Maps that are changed in place.
-ghost use Rattle.std.specs.Prelude.{OnErr};
-ghost use Rattle.std.specs.Prelude.{◌≡◌, ◌==◌, if◌then◌else◌, ℕ, false, [], Some, None, OnOk};
-ghost use Rattle.std.specs.Prelude.{IfOk, IfErr, option_copied};
-ghost use Rattle.cap_summary.specs.Sorted.{IsAt, IsGap, found, Rises};
+ghost use Rattle.std.specs.Prelude.{IfErr, IfOk, None, OnErr, OnOk, Some, [], false, if◌then◌else◌, ℕ, ◌==◌, ◌≡◌};
+ghost use Rattle.cap_summary.specs.{Sorted.IsAt, Sorted.IsGap, Sorted.Rises, Sorted.found, option_copied};
 
 use cap_tree::NoMemory;
 use std::alloc::{AllocError, Global};

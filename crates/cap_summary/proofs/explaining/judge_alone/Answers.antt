@@ -1,7 +1,7 @@
-use Rattle.std.specs.Prelude.{◌≡◌, ◌+◌, ◌≤◌, ℕ, List, take}
-use Rattle.cap_summary.specs.{Step, State, Found, Explained, start_state, Positions.found_in, Positions.positions}
-use Rattle.cap_summary.proofs.{◌∙◌, sym, ap, arith, Judged.one_more, explaining.judge_alone.Goals.In_ok-note_asked}
-use Rattle.cap_summary.proofs.Resolving.{none_before_first, found_next, found_in_first, from_first}
+use Rattle.std.specs.Prelude.{List, take, ℕ, ◌+◌, ◌≡◌, ◌≤◌}
+use Rattle.cap_summary.proofs.{Judged.one_more, ap, arith, explaining.judge_alone.Goals.In_ok-note_asked, sym, ◌∙◌}
+use Rattle.cap_summary.proofs.Resolving.{found_in_first, found_next, from_first, none_before_first}
+use Rattle.cap_summary.specs.{Explained, Found, Positions.found_in, Positions.positions, State, Step, start_state}
 use Rattle.cap_summary.proofs.explaining.judge_alone.Goals as goal
 
 pub loop-count-init : goal.loop-count-init

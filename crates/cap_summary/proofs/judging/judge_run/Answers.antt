@@ -1,9 +1,9 @@
-use Rattle.std.specs.Prelude.{◌≡◌, ◌+◌, ◌++◌, ℕ, List, length, take}
-use Rattle.cap_summary.specs.{Rc, Global, Step, Found, State, said, Entry, values}
-use Rattle.cap_summary.specs.{Effects.state_before, Keys.state_of, Effects.changed, Keys.cells_of, Positions.said_in, Positions.found_in}
-use Rattle.cap_summary.proofs.{sym, ap, ◌∙◌, arith, length-map, length-take-le, take_all, Judged.none_judged}
-use Rattle.cap_summary.proofs.{Judged.more_judged, Knowing.one_more, Knowing.after_more, Resolving.found_in_first}
-use Rattle.cap_summary.proofs.{Runs.values-take}
+use Rattle.std.specs.Prelude.{List, length, take, ℕ, ◌++◌, ◌+◌, ◌≡◌}
+use Rattle.cap_summary.proofs.{Judged.more_judged, Judged.none_judged, Resolving.found_in_first, Runs.values-take, sym}
+use Rattle.cap_summary.proofs.{ap, arith, length-map, length-take-le, take_all, ◌∙◌}
+use Rattle.cap_summary.proofs.Knowing.{after_more, one_more}
+use Rattle.cap_summary.specs.{Effects.changed, Effects.state_before, Global, Positions.found_in, Positions.said_in, Rc}
+use Rattle.cap_summary.specs.{Entry, Found, Keys.cells_of, Keys.state_of, State, Step, said, values}
 use Rattle.cap_summary.proofs.judging.judge_run.Goals as goal
 
 pub loop-step-init : goal.loop-step-init

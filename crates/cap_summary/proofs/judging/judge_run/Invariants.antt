@@ -1,6 +1,6 @@
-use Rattle.std.specs.Prelude.{◌≡◌, ◌+◌, length, take}
-use Rattle.cap_summary.specs.{values, Effects.state_before}
-use Rattle.cap_summary.proofs.{Judged.IsJudged}
+use Rattle.std.specs.Prelude.{length, take, ◌+◌, ◌≡◌}
+use Rattle.cap_summary.specs.{Effects.state_before, values}
+use Rattle.cap_summary.proofs.Judged.{IsJudged}
 use Rattle.cap_summary.proofs.judging.judge_run.Given as goal
 
 abbrev pub invariant-loop-step : goal.invariant-loop-step

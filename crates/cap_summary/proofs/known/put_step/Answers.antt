@@ -1,6 +1,6 @@
-use Rattle.std.specs.Prelude.{◌≡◌, ◌∷◌, ◌++◌, []}
+use Rattle.std.specs.Prelude.{[], ◌++◌, ◌∷◌, ◌≡◌}
 use Rattle.cap_summary.specs.{Entry, Names.names_in}
-use Rattle.cap_summary.proofs.{ap, Knowing.says_more, Naming.line_in, Naming.requirement_in}
+use Rattle.cap_summary.proofs.{Knowing.says_more, Naming.line_in, Naming.requirement_in, ap}
 use Rattle.cap_summary.proofs.known.put_step.Goals as goal
 
 pub returns : goal.returns

@@ -1,21 +1,21 @@
+use Rattle.std.specs.Prelude.{IfSome, Some, [], refl, true, ◌++◌, ◌≡◌}
+use Rattle.cap_summary.proofs.{IfOk-weaker, ap, append-nil, append_assoc, arith, ranked, subst, sym, take_all, ◌∙◌}
+use Rattle.cap_summary.proofs.Pulling.{kept_more, kept_same, pulled_never, pulled_none, pulled_put, pulled_united}
 use Rattle.std.proofs.lemmas.List.Folds.{list_any_at}
-use Rattle.std.specs.Prelude.{◌≡◌, true, refl, Some, IfSome}
-use Rattle.cap_summary.specs.{Equal, State, Effects.cell_in, Effects.changed, Keys.cells_of, Tests.passes, Sorted.found}
-use Rattle.cap_summary.specs.{declared.ask.Ask.Ask, Names.Names, Names.has_cell, Names.IsRowWithin, Names.EffectWithin}
-use Rattle.cap_summary.specs.Asks.{holds, pulled_holds, IfAsked, AskWithin, IsOpen}
-use Rattle.cap_summary.proofs.{drop_all, append-nil, arith, sym, ap, ◌∙◌, subst, ranked}
-use Rattle.cap_summary.proofs.Pulling.{pulled_none, pulled_never, pulled_kept, swapped, kept_same, kept_more}
+use Rattle.cap_summary.specs.{Effects.cell_in, Names.EffectWithin, Names.IsRowWithin, Names.Names, declared.ask.Ask.Ask}
+use Rattle.cap_summary.specs.{Effects.changed, Equal, Keys.cells_of, Names.has_cell, Sorted.found, State, Tests.passes}
+use Rattle.cap_summary.specs.Asks.{AskWithin, IfAsked, IsOpen, holds, pulled_holds}
 use Rattle.cap_summary.proofs.precondition.pulled_asks.Goals as goal
 
 pub loop-ask-init : goal.loop-ask-init
 loop-ask-init c = record {
-  back = pulled_none _ _ _ c.in_ok-kept.ensures.items c.new-moved.ensures.items;
+  back = pulled_none _ _ (rw (c.in_ok-kept.ensures.items, c.new-moved.ensures.items) refl);
   kept = rw c.in_ok-kept.ensures.items c.requires;
   row = c.row-row.ensures;
 }
 
-pub returns-in-Always-clause-always : goal.returns-in-Always-clause-always
-returns-in-Always-clause-always c = λ s.
+pub returns-in-Always : goal.returns-in-Always
+returns-in-Always c = λ s.
     let cells = changed c.args.first.now (cells_of s) in
     let ask = c.ask-item.result in
     let here : holds cells ask ≡ true =
@@ -29,7 +29,7 @@ loop-ask-preserved-in_default c =
     let first = c.args.first.now in
     let ask = c.ask-item.result in
     let so_far = c.loop-ask.invariant in record {
-      back = rw c.in_ok-push.ensures.items (pulled_kept first c.args.asks.now c.loop-ask.ask-index ask
+      back = rw c.in_ok-push.ensures.items (pulled_put first c.args.asks.now c.loop-ask.ask-index ask
           c.loop-ask.kept.items c.loop-ask.moved.items c.loop-ask-test.true c.ask-item.is so_far.back ask
           (λ can. can) (λ s. ap (passes ask) (sym (rw c.in_default.is at c.changed_by.ensures.left (cells_of s))
           ∙ ap (λ r. cell_in (cells_of s) r ask.pid ask.key) c.row_of-row.ensures))
@@ -69,9 +69,9 @@ loop-ask-preserved c =
       }
       | goal.in-Where+in-Equal+in_ok-push-in-Equal w ↦
           let may : IsOpen w.in-Where.before = rw w.in-Where.is at c.through.ensures.open in record {
-            back = rw (w.kept-is, w.moved-is, w.in_ok-push-in-Equal.ensures.items) (pulled_kept first asks i ask kept moved
-                within is so_far.back w.in-Where.before (λ can. may)
-                (rw w.in-Where.is at met) (rw w.in-Where.is at named));
+            back = rw (w.kept-is, w.moved-is, w.in_ok-push-in-Equal.ensures.items) (pulled_put first asks i ask kept
+                moved within is so_far.back w.in-Where.before (λ can. may) (rw w.in-Where.is at met)
+                (rw w.in-Where.is at named));
             kept = rw (w.kept-is, w.in_ok-push-in-Equal.ensures.items)
                 (kept_more asks kept i ask within is so_far.kept w.in-Where.before
                 (ranked _ _ Equal w.in-Equal.ensures.places));
@@ -79,16 +79,16 @@ loop-ask-preserved c =
           }
       | goal.in-Where+in_default-order+in_ok-push-in_default-order w ↦
           let may : IsOpen w.in-Where.before = rw w.in-Where.is at c.through.ensures.open in record {
-            back = rw (w.kept-is, w.moved-is, w.in_ok-push-in_default-order.ensures.items) (swapped first _ _ kept (pulled_kept
-                first asks i ask moved kept within is (swapped first _ kept moved so_far.back) w.in-Where.before
-                (λ can. may)
-                (rw w.in-Where.is at met) (rw w.in-Where.is at named)));
+            back = rw (w.kept-is, w.moved-is, w.in_ok-push-in_default-order.ensures.items) (rw (append-nil, append_assoc)
+                at (pulled_put first asks i ask (kept ++ moved) [] within is (rw append-nil so_far.back) w.in-Where.before
+                (λ can. may) (rw w.in-Where.is at met) (rw w.in-Where.is at named)));
             kept = rw w.kept-is (kept_same asks kept i ask within is so_far.kept);
             row = row;
           }
     ]
 
-pub returns-clause-rises : goal.returns-clause-rises
-returns-clause-rises c =
-    rw (drop_all c.loop-ask.ask-index c.args.asks.now (omega arith), append-nil c.loop-ask.kept.items) at
-    c.loop-ask.invariant.kept
+pub returns : goal.returns
+returns c =
+    let back = rw (take_all c.loop-ask.ask-index c.args.asks.now (omega arith)) at c.loop-ask.invariant.back in
+    IfOk-weaker c.unite_unordered.result _ _ (λ united is. pulled_united c.args.first.now c.args.asks.now
+    c.loop-ask.kept.items c.loop-ask.moved.items united back is) c.unite_unordered.ensures

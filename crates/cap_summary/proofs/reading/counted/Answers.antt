@@ -1,8 +1,8 @@
-use Rattle.std.specs.Prelude.{◌≡◌, ℕ, List, length, min, All}
-use Rattle.cap_summary.specs.{RowSizes.rows_size, RowSizes.CellsRise, Sorted.RisesFrom, declared.effect.Row.Row}
-use Rattle.cap_summary.specs.{declared.value.Value.Value}
-use Rattle.cap_summary.proofs.{ap, subst, ◌∙◌, arith, take_all, Counting.sizes_more, Counting.rises_more}
-use Rattle.cap_summary.proofs.{SortedFound.keys_rise}
+use Rattle.std.specs.Prelude.{All, List, length, min, ℕ, ◌≡◌}
+use Rattle.cap_summary.proofs.{SortedFound.keys_rise, ap, arith, subst, take_all, ◌∙◌}
+use Rattle.cap_summary.proofs.Counting.{rises_more, sizes_more}
+use Rattle.cap_summary.specs.{RowSizes.CellsRise, RowSizes.rows_size, Sorted.RisesFrom, declared.effect.Row.Row}
+use Rattle.cap_summary.specs.declared.value.Value.{Value}
 use Rattle.cap_summary.proofs.reading.counted.Goals as goal
 
 pub loop-entry-preserved : goal.loop-entry-preserved

@@ -1,6 +1,6 @@
-use Rattle.std.specs.Prelude.{◌≡◌, ◌/◌, ℕ, List, length, true, false, is_some}
-use Rattle.cap_summary.specs.{Found, check, State, start_state, Positions.within, Stands.summed_up, Stands.kept_of}
-use Rattle.cap_summary.proofs.{ap, arith, sym, ◌∙◌, Resolving.later-none, Resolving.judged_all, Resolving.not_many}
+use Rattle.std.specs.Prelude.{List, false, is_some, length, true, ℕ, ◌/◌, ◌≡◌}
+use Rattle.cap_summary.proofs.{Resolving.judged_all, Resolving.later-none, Resolving.not_many, ap, arith, sym, ◌∙◌}
+use Rattle.cap_summary.specs.{Found, Positions.within, Stands.kept_of, Stands.summed_up, State, check, start_state}
 use Rattle.cap_summary.proofs.summary.report_range.Goals as goal
 
 pub returns-then-len-most-clause-found : goal.returns-then-len-most-clause-found

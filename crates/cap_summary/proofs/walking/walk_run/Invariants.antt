@@ -1,6 +1,6 @@
-use Rattle.std.specs.Prelude.{◌≤◌, length}
+use Rattle.std.specs.Prelude.{length, ◌≤◌}
 use Rattle.cap_summary.specs.{values}
-use Rattle.cap_summary.proofs.{Walks.Sees}
+use Rattle.cap_summary.proofs.Walks.{Sees}
 use Rattle.cap_summary.proofs.walking.walk_run.Given as goal
 
 abbrev pub invariant-loop-step : goal.invariant-loop-step

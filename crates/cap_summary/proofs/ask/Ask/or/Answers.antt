@@ -5,6 +5,6 @@ use Rattle.cap_summary.proofs.ask.Ask.or.Goals as goal
 pub returns-clause-holds : goal.returns-clause-holds
 returns-clause-holds c = λ cells.
     let a = c.args.self.now in
-    let both : Ask = record a { kinds = c.join.result; rights = c.join-2.result } in
-    rw (← c.requires.pid, ← c.requires.key) (passes_either a c.args.other.now both c.join.ensures c.join-2.ensures.either
-    refl c.requires.lacking (cells a.pid a.key))
+    let both : Ask = record a { kinds = c.join-kinds.result; rights = c.join-rights.result } in
+    rw (← c.requires.pid, ← c.requires.key) (passes_either a c.args.other.now both c.join-kinds.ensures
+    c.join-rights.ensures.either refl c.requires.lacking (cells a.pid a.key))

@@ -1,4 +1,4 @@
-use Rattle.cap_summary.proofs.{sym, ◌∙◌, Asking.is_open, Asking.certain_holds, Asking.never_passes}
+use Rattle.cap_summary.proofs.{Asking.certain_holds, Asking.is_open, Asking.never_passes, sym, ◌∙◌}
 use Rattle.cap_summary.proofs.ask.Ask.settled.Goals as goal
 
 pub returns-then-is_certain-clause-holds : goal.returns-then-is_certain-clause-holds

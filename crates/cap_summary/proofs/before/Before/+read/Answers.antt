@@ -1,8 +1,7 @@
-use Rattle.std.specs.Prelude.{◌≡◌, ℕ, refl}
-use Rattle.cap_summary.specs.{Effects.state_before, Effects.changed, Values.seen_cell}
-use Rattle.cap_summary.specs.Keys.{cells_of, mode_cell, cell_mode}
-use Rattle.cap_summary.proofs.{ap, ◌∙◌}
-use Rattle.cap_summary.proofs.before.Before.+read.Goals.{Joined-view}
+use Rattle.std.specs.Prelude.{refl, ℕ, ◌≡◌}
+use Rattle.cap_summary.proofs.{ap, before.Before.+read.Goals.Joined-view, ◌∙◌}
+use Rattle.cap_summary.specs.{Keys.cell_mode, Keys.cells_of, Keys.mode_cell, Values.seen_cell}
+use Rattle.cap_summary.specs.Effects.{changed, state_before}
 use Rattle.cap_summary.proofs.before.Before.+read.Goals as goal
 
 -- what is read is the cell after the effect

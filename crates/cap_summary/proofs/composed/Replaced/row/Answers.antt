@@ -1,8 +1,8 @@
-use Rattle.std.specs.Prelude.{◌≡◌, true, false, Option, Some, option_copied}
-use Rattle.cap_summary.specs.{Composing.IsComposedSo, Composing.IsOldAt, Sorted.found, declared.effect.Effect.Effect}
-use Rattle.cap_summary.specs.{declared.effect.Row.Row}
-use Rattle.cap_summary.proofs.{sym, subst, ◌∙◌, IfSome_then, Equal.same_given}
+use Rattle.std.specs.Prelude.{Option, Some, false, option_copied, true, ◌≡◌}
+use Rattle.cap_summary.proofs.{Equal.same_given, IfSome_then, subst, sym, ◌∙◌}
 use Rattle.cap_summary.proofs.OwnCells.{copied, first_replaced, second_replaced}
+use Rattle.cap_summary.specs.{Composing.IsComposedSo, Composing.IsOldAt, Sorted.found, declared.effect.Row.Row}
+use Rattle.cap_summary.specs.declared.effect.Effect.{Effect}
 use Rattle.cap_summary.proofs.composed.Replaced.row.Goals as goal
 
 pub returns-then-stands : goal.returns-then-stands

@@ -1,4 +1,4 @@
-use Rattle.cap_summary.proofs.{sym, ◌∙◌, Equal.same_rows}
+use Rattle.cap_summary.proofs.{Equal.same_rows, sym, ◌∙◌}
 use Rattle.cap_summary.proofs.effect.Effect.is_same.Goals as goal
 
 pub returns-then-sized : goal.returns-then-sized

@@ -1,6 +1,5 @@
-use Rattle.std.specs.Prelude.{ℕ}
-use Rattle.cap_summary.specs.{Composing.IsHandedSo, Sorted.found, declared.effect.Row.Row}
-use Rattle.cap_summary.proofs.RowsComposed.{composed_row, composed_leaves}
+use Rattle.cap_summary.specs.{Composing.IsHandedSo, Sorted.found, declared.effect.Row.Row, ℕ}
+use Rattle.cap_summary.proofs.RowsComposed.{composed_leaves, composed_row}
 use Rattle.cap_summary.proofs.effect.Effect.row_after.Goals as goal
 
 pub returns : goal.returns

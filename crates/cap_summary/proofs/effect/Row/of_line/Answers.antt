@@ -1,5 +1,5 @@
-use Rattle.cap_summary.specs.{refl, Names.has_cell}
-use Rattle.cap_summary.proofs.{◌∙◌, LineListed.started_row}
+use Rattle.cap_summary.proofs.{LineListed.started_row, ◌∙◌}
+use Rattle.cap_summary.specs.{Names.has_cell, refl}
 use Rattle.cap_summary.proofs.effect.Row.of_line.Goals as goal
 
 pub returns-in_ok-started_cells-in-Start-clause-cells : goal.returns-in_ok-started_cells-in-Start-clause-cells

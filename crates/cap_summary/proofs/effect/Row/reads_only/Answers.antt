@@ -1,7 +1,6 @@
-use Rattle.std.proofs.{lemmas.Iterator.YieldsList-from_slice, lemmas.Iterator.Search.all_from_yields_List}
-use Rattle.std.specs.Prelude.{ℕ}
-use Rattle.cap_summary.specs.{Names.only, Names.has_cell, Values.reads_within, declared.value.Value.Value}
-use Rattle.cap_summary.proofs.{rules, sym, ◌∙◌, OwnCells.list_only}
+use Rattle.cap_summary.proofs.{OwnCells.list_only, rules, sym, ◌∙◌}
+use Rattle.cap_summary.specs.{Names.has_cell, Names.only, Values.reads_within, declared.value.Value.Value, ℕ}
+use Rattle.std.proofs.{lemmas.Iterator.Search.all_from_yields_List, lemmas.Iterator.YieldsList-from_slice}
 use Rattle.cap_summary.proofs.effect.Row.reads_only.Goals as goal
 
 pub returns-then-others_read_only : goal.returns-then-others_read_only

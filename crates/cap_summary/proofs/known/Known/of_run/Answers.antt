@@ -4,8 +4,7 @@ use Rattle.cap_summary.proofs.known.Known.of_run.Goals as goal
 
 pub loop-step-init : goal.loop-step-init
 loop-step-init c = says_none c.empty-effect.result c.in_ok-precondition.precondition c.empty-effect.ensures.cells
-    c.in_ok-precondition.ensures.met c.in_ok-precondition.ensures.possible c.empty-effect.ensures.names
-    c.in_ok-precondition.ensures.names
+    c.in_ok-precondition.ensures.met c.in_ok-precondition.ensures.each c.empty-effect.ensures.names
     (rw (c.in_ok-precondition.ensures.nothing.1, c.in_ok-precondition.ensures.nothing.2) refl)
 
 pub loop-step-preserved : goal.loop-step-preserved
@@ -21,9 +20,8 @@ returns c =
     let so_far : Says c.loop-step.effect c.loop-step.precondition (values c.args.steps.now) =
     rw (take_all c.loop-step.step-index c.args.steps.now (omega arith)) at c.loop-step.invariant in
     let settled = c.in_ok-settled in
-    rw (c.in_ok-effect.ensures.ok, c.in_ok-precondition-2.ensures.ok) (record {
+    rw (c.in_ok-effect.ensures.ok, c.in_ok-shared.ensures.ok) (record {
       says = says_same c.loop-step.effect c.loop-step.precondition settled.settled (values c.args.steps.now) so_far
-          settled.ensures.met settled.ensures.possible settled.ensures.names settled.ensures.few
-          settled.ensures.refusals;
+          settled.ensures.met settled.ensures.each settled.ensures.few settled.ensures.refusals;
       settled = settled.ensures.settled;
     })

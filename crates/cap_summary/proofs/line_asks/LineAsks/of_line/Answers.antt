@@ -1,8 +1,9 @@
-use Rattle.cap_machine.specs.{Judge.is_forbidden, Judge.judged_by}
-use Rattle.std.specs.Prelude.{◌≡◌, ◌&&◌, ◌||◌, not, false, true, map, refl}
-use Rattle.cap_summary.specs.{list_any, listed, Check, LineAsks.has_any, LineAsks.is_lacked, Keys.mode_cell}
-use Rattle.cap_summary.specs.{Tests.has_kind, declared.kinds.TheConstants.Kinds.CLOSED}
-use Rattle.cap_summary.proofs.{sym, ap, ◌∙◌, arith, LineAsking.not_forbidden, LineAsking.success_found, LineAsking.refusal_found}
+use Rattle.std.specs.Prelude.{false, map, not, refl, true, ◌&&◌, ◌||◌, ◌≡◌}
+use Rattle.cap_summary.proofs.{ap, arith, sym, ◌∙◌}
+use Rattle.cap_summary.proofs.LineAsking.{not_forbidden, refusal_found, success_found}
+use Rattle.cap_machine.specs.Judge.{is_forbidden, judged_by}
+use Rattle.cap_summary.specs.{LineAsks.has_any, LineAsks.is_lacked, declared.kinds.TheConstants.Kinds.CLOSED, list_any}
+use Rattle.cap_summary.specs.{Check, Keys.mode_cell, Tests.has_kind, listed}
 use Rattle.cap_summary.proofs.line_asks.LineAsks.of_line.Goals as goal
 
 pub returns-after-matches-clause-holds : goal.returns-after-matches-clause-holds

@@ -1,8 +1,8 @@
-use Rattle.std.proofs.Common.{rules}
-use Rattle.std.specs.Prelude.{◌≡◌, ◌+◌, ◌++◌, List, length, refl}
-use Rattle.cap_summary.specs.{Step, State, start_state, values, Content.content_steps, declared.judging.Report.Report}
-use Rattle.cap_summary.proofs.{sym, ap, ◌∙◌, arith, length-append, on_ok_weaker, Judged.run_judged, Runs.same_steps}
+use Rattle.std.specs.Prelude.{List, length, refl, ◌++◌, ◌+◌, ◌≡◌}
+use Rattle.cap_summary.proofs.{Judged.run_judged, Runs.same_steps, ap, arith, length-append, on_ok_weaker, sym, ◌∙◌}
 use Rattle.cap_summary.proofs.Agreeing.{agree_same, judged_both, none_judged, noted_parts}
+use Rattle.std.proofs.Common.{rules}
+use Rattle.cap_summary.specs.{Content.content_steps, State, Step, declared.judging.Report.Report, start_state, values}
 use Rattle.cap_summary.proofs.node.Node.+judge.Goals as goal
 
 pub judge-requires : goal.judge-requires
@@ -12,7 +12,7 @@ judge-requires t c =
     let parts : a ++ b ≡ c.args.self.now.steps = sym (ap content_steps c.in-Both.is) ∙ same_steps c.self.view_is in
     let size : length a + length b ≡ length c.args.self.now.steps = sym (length-append a b) ∙ ap (λ r. length r) parts in
     let noted = (noted_parts c.args.last.now c.args.at (length a) a b refl (rw parts c.requires.noted)).0 in
-    rw c.deref-in-Both.ensures (search rules, (omega arith, (omega arith, noted)))
+    rw c.deref-left.ensures (search rules, (omega arith, (omega arith, noted)))
 
 pub judge-requires-in-Both : goal.judge-requires-in-Both
 judge-requires-in-Both t c =
@@ -22,8 +22,8 @@ judge-requires-in-Both t c =
     let size : length a + length b ≡ length c.args.self.now.steps = sym (length-append a b) ∙ ap (λ r. length r) parts in
     let len : c.len-in-Both.result ≡ length a = cc in
     let noted = (noted_parts c.args.last.now c.args.at c.len-in-Both.result a b len (rw parts c.requires.noted)).1 in
-    let judged = rw c.deref-in-Both.ensures at c.in_ok-judge-in-Both.ensures.all in
-    rw c.deref-in-Both-2.ensures (search rules, (omega arith, (omega arith, noted)))
+    let judged = rw c.deref-left.ensures at c.in_ok-judge-in-Both.ensures.all in
+    rw c.deref-right.ensures (search rules, (omega arith, (omega arith, noted)))
 
 pub returns-then-asked-at-clause-judged : goal.returns-then-asked-at-clause-judged
 returns-then-asked-at-clause-judged t c = λ s agree. none_judged c.args.last.now c.args.asked.now c.args.at
@@ -51,8 +51,8 @@ returns-in_ok-judge-in-Both t c =
     let b : List Step = c.in-Both.b.value.steps in
     let parts : a ++ b ≡ c.args.self.now.steps = sym (ap content_steps c.in-Both.is) ∙ same_steps c.self.view_is in
     let len : c.len-in-Both.result ≡ length a = cc in
-    let first = rw c.deref-in-Both.ensures at c.in_ok-judge-in-Both.ensures in
-    let second = rw c.deref-in-Both-2.ensures at c.judge-in-Both.ensures in
+    let first = rw c.deref-left.ensures at c.in_ok-judge-in-Both.ensures in
+    let second = rw c.deref-right.ensures at c.judge-in-Both.ensures in
     rw (← parts) (record {
       judged = λ s agree. judged_both c.judge-in-Both.result c.args.last.now c.args.asked.now c.args.at
           c.len-in-Both.result a b s _ _ _ _ _ len (first.judged s agree) second.judged;

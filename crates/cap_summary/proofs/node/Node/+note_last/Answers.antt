@@ -1,6 +1,6 @@
-use Rattle.std.specs.Prelude.{◌≡◌, ◌+◌, ◌++◌, List, length}
-use Rattle.cap_summary.specs.{Step, Content.content_steps, LastSteps.AreNoted}
-use Rattle.cap_summary.proofs.{sym, ap, ◌∙◌, subst, Runs.same_steps, Agreeing.noted_later, Agreeing.noted_both}
+use Rattle.std.specs.Prelude.{List, length, ◌++◌, ◌+◌, ◌≡◌}
+use Rattle.cap_summary.proofs.{Agreeing.noted_both, Agreeing.noted_later, Runs.same_steps, ap, subst, sym, ◌∙◌}
+use Rattle.cap_summary.specs.{Content.content_steps, LastSteps.AreNoted, Step}
 use Rattle.cap_summary.proofs.node.Node.+note_last.Goals as goal
 
 pub returns-in_ok-note_last-in-Both-2-clause-noted : goal.returns-in_ok-note_last-in-Both-2-clause-noted
@@ -8,11 +8,11 @@ returns-in_ok-note_last-in-Both-2-clause-noted t c =
     let a : List Step = c.in-Both.a.value.steps in
     let b : List Step = c.in-Both.b.value.steps in
     let parts : a ++ b ≡ c.args.self.now.steps = sym (ap content_steps c.in-Both.is) ∙ same_steps c.self.view_is in
-    let len : c.len.result ≡ length a = rw c.deref-in-Both-3.ensures at c.len.ensures.count in
+    let len : c.len.result ≡ length a = rw c.deref-left.ensures at c.len.ensures.count in
     let first : AreNoted c.note_last.new.last c.args.at a =
-    rw c.deref-in-Both.ensures at c.in_ok-note_last-in-Both.ensures.noted in
+    rw c.deref-left.ensures at c.in_ok-note_last-in-Both.ensures.noted in
     let second : AreNoted c.note_last-in-Both.new.last (c.args.at + c.len.result) b =
-    rw c.deref-in-Both-2.ensures at c.in_ok-note_last-in-Both-2.ensures.noted in
+    rw c.deref-right.ensures at c.in_ok-note_last-in-Both-2.ensures.noted in
     subst (λ (r : List Step). AreNoted c.note_last-in-Both.new.last c.args.at r) parts
     (noted_both c.note_last-in-Both.new.last c.args.at c.len.result a b len (noted_later c.note_last.new.last
     c.note_last-in-Both.new.last c.args.at a c.in_ok-note_last-in-Both-2.ensures.kept first) second)

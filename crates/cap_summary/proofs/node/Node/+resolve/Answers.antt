@@ -1,9 +1,9 @@
-use Rattle.std.specs.Prelude.{◌≡◌, ◌≤◌, ◌++◌, List, length, true, refl}
-use Rattle.cap_summary.specs.{Step, State, Found, check, Effects.state_before, Content.content_steps, Kept.IsKept}
-use Rattle.cap_summary.specs.{LineAsks.has_any}
-use Rattle.cap_summary.proofs.{sym, ap, ◌∙◌, arith, inl, inr, length-append, on_ok_weaker, Judged.run_judged}
-use Rattle.cap_summary.proofs.{Judged.known_ends, Runs.same_steps}
-use Rattle.cap_summary.proofs.Resolving.{found_all, found_outside, not_many, stopped, many_parts, some_found}
+use Rattle.std.specs.Prelude.{List, length, refl, true, ◌++◌, ◌≡◌, ◌≤◌}
+use Rattle.cap_summary.proofs.{Runs.same_steps, ap, arith, inl, inr, length-append, on_ok_weaker, sym, ◌∙◌}
+use Rattle.cap_summary.proofs.Resolving.{found_all, found_outside, many_parts, not_many, some_found, stopped}
+use Rattle.cap_summary.proofs.Judged.{known_ends, run_judged}
+use Rattle.cap_summary.specs.{Content.content_steps, Effects.state_before, Found, Kept.IsKept, State, Step, check}
+use Rattle.cap_summary.specs.LineAsks.{has_any}
 use Rattle.cap_summary.proofs.node.Node.+resolve.Goals as goal
 
 pub returns-then-asked-at-clause-found : goal.returns-then-asked-at-clause-found
@@ -45,7 +45,7 @@ returns-then-len-asked t c =
     let a : List Step = c.in-Both.a.value.steps in
     let b : List Step = c.in-Both.b.value.steps in
     let parts : a ++ b ≡ c.args.self.now.steps = sym (ap content_steps c.in-Both.is) ∙ same_steps c.self.view_is in
-    let first = rw c.deref-in-Both-2.ensures at c.in_ok-resolve-in-Both.ensures in
+    let first = rw c.deref-left.ensures at c.in_ok-resolve-in-Both.ensures in
     rw (← parts) (record {
       found = rw (found_all c.args.asked.now c.args.at (length a) s a b c.args.report.now.found.items refl)
           (stopped c.args.asked.now.most c.resolve.new.report.found.items _ _ first.found (omega arith));
@@ -63,11 +63,11 @@ returns-else-len-asked t c =
     let parts : a ++ b ≡ c.args.self.now.steps = sym (ap content_steps c.in-Both.is) ∙ same_steps c.self.view_is in
     let len : c.len-in-Both.result ≡ length a = cc in
     let kept : IsKept c.unwrap-first.result.now a =
-    rw (c.unwrap-first.ensures, c.deref-in-Both-3.ensures) at c.known-in-Both.ensures.kept in
+    rw (c.unwrap-first.ensures, c.deref-left.ensures) at c.known-in-Both.ensures.kept in
     let ends = known_ends c.unwrap-first.result.now a kept.knows s in
-    let first = rw c.deref-in-Both-2.ensures at c.in_ok-resolve-in-Both.ensures in
+    let first = rw c.deref-left.ensures at c.in_ok-resolve-in-Both.ensures in
     let all = not_many c.args.asked.now.most c.resolve.new.report.found.items _ first.found (omega arith) in
-    let more = rw (c.deref-in-Both-4.ensures, ends, c.deref-in-Both-5.ensures) at c.resolve-in-Both.ensures in
+    let more = rw (c.deref-effect.ensures, ends, c.deref-right.ensures) at c.resolve-in-Both.ensures in
     rw (← parts) (record {
       found = on_ok_weaker c.resolve-in-Both.result (λ last. rw (
         found_all c.args.asked.now c.args.at c.len-in-Both.result s a b old len,

@@ -1,6 +1,6 @@
-use Rattle.std.specs.Prelude.{◌≡◌, ◌++◌, ℕ, List, length, take}
-use Rattle.cap_summary.specs.{Step, values, Content.content_steps}
-use Rattle.cap_summary.proofs.{sym, ap, ◌∙◌, arith, on_ok_weaker, Runs.values-take, Runs.same_steps, Walks.walked_parts}
+use Rattle.std.specs.Prelude.{List, length, take, ℕ, ◌++◌, ◌≡◌}
+use Rattle.cap_summary.proofs.{Runs.same_steps, Runs.values-take, Walks.walked_parts, ap, arith, on_ok_weaker, sym, ◌∙◌}
+use Rattle.cap_summary.specs.{Content.content_steps, Step, values}
 use Rattle.cap_summary.proofs.node.Node.+walk.Goals as goal
 
 pub returns-in-Run : goal.returns-in-Run
@@ -15,11 +15,11 @@ pub returns-in_ok-walk-in-Both : goal.returns-in_ok-walk-in-Both
 returns-in_ok-walk-in-Both g t c =
     let a : List Step = c.in-Both.a.value.steps in
     let b : List Step = c.in-Both.b.value.steps in
-    let left : ℕ = c.len-left.result in
+    let left : ℕ = c.len-len.result in
     let parts : a ++ b ≡ c.args.self.now.steps = sym (ap content_steps c.in-Both.is) ∙ same_steps c.self.view_is in
-    let long : left ≡ length a = rw c.deref-in-Both.ensures at c.len-left.ensures.count in
-    let right = rw c.deref-in-Both-2.ensures at c.in_ok-walk-in-Both.ensures in
+    let long : left ≡ length a = rw c.deref-left.ensures at c.len-len.ensures.count in
+    let right = rw c.deref-right.ensures at c.in_ok-walk-in-Both.ensures in
     rw (← parts) (on_ok_weaker c.walk-in-Both-2.result (λ last.
     walked_parts g.W.Walk.sees c.args.walk.now c.walk-in-Both.new.walk c.walk-in-Both-2.new.walk c.args.at left
-    c.args.count a b long (omega (arith, c.if-count-left.false)) right (rw c.deref-in-Both-3.ensures at last))
+    c.args.count a b long (omega (arith, c.if-count-len.false)) right (rw c.deref-left.ensures at last))
     c.walk-in-Both-2.ensures)

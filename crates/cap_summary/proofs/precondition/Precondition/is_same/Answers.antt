@@ -1,5 +1,5 @@
-use Rattle.std.specs.Prelude.{◌≡◌, true, false}
-use Rattle.cap_summary.proofs.{sym, ◌∙◌, Equal.same_asks, Equal.same_refusals, Equal.beq_true}
+use Rattle.std.specs.Prelude.{false, true, ◌≡◌}
+use Rattle.cap_summary.proofs.{Equal.beq_true, Equal.same_asks, Equal.same_refusals, sym, ◌∙◌}
 use Rattle.cap_summary.proofs.precondition.Precondition.is_same.Goals as goal
 
 pub returns-then-eq : goal.returns-then-eq

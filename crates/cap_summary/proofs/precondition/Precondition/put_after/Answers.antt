@@ -1,7 +1,7 @@
 use Rattle.cap_summary.specs.{Asks.holds, Asks.AskWithin, Asks.AreWithin, Names.Names, Names.has_cell}
-use Rattle.cap_summary.specs.{Preconditions.IsWithMore}
+use Rattle.cap_summary.specs.{Preconditions.IfNamed, Preconditions.IsWithMore}
 use Rattle.cap_summary.proofs.{sym, Meeting.nothing_more, Meeting.now_certain, Meeting.more_asks, Meeting.next_more}
-use Rattle.cap_summary.proofs.{Meeting.read_all}
+use Rattle.cap_summary.proofs.{Meeting.named_then, Meeting.read_all}
 use Rattle.cap_summary.proofs.precondition.Precondition.put_after.Goals as goal
 
 pub loop-ask-preserved : goal.loop-ask-preserved
@@ -13,15 +13,17 @@ loop-ask-preserved c =
     let pre = c.loop-ask.self in
     let pulled = c.before-in-loop-ask.ensures in
     let one = λ (names : Names). AskWithin (has_cell names) ask in
-    let next : IsWithMore first (λ cells. holds cells ask) one 1 0 pre c.match-before.self = elim c.match-before.branch [
-      | goal.in-Always w ↦ rw w.self-is (now_certain first (λ cells. holds cells ask) one 1 0 pre
+    let all = λ (names : Names). AreWithin (has_cell names) asks in
+    let next : IsWithMore first (λ cells. holds cells ask) (IfNamed one) 1 0 pre c.match-before.self =
+    elim c.match-before.branch [
+      | goal.in-Always w ↦ rw w.self-is (now_certain first (λ cells. holds cells ask) (IfNamed one) 1 0 pre
           (λ s. sym (rw w.in-Always.is at (pulled.holds s))))
-      | goal.in-Never w ↦ rw w.self-is (nothing_more first (λ cells. holds cells ask) one 1 0 pre
+      | goal.in-Never w ↦ rw w.self-is (nothing_more first (λ cells. holds cells ask) (IfNamed one) 1 0 pre
           (λ s. sym (rw w.in-Never.is at (pulled.holds s))))
       | goal.in-Where+in_ok-push-in-Where w ↦ rw w.self-is (more_asks first pre ask w.in-Where.ask w.push.new.self
           w.in_ok-push-in-Where.ensures.items (rw w.in-Where.is at pulled.open) (rw w.in-Where.is at pulled.holds)
           (rw w.in-Where.is at pulled.names))
     ] in
-    next_more first holds asks i ask (λ names. AreWithin (has_cell names) asks) one i 0 1 0 _ pre _ c.loop-ask-test.true
-    c.ask-item.is (λ names all. read_all (AskWithin (has_cell names)) asks i ask c.loop-ask-test.true c.ask-item.is all)
+    next_more first holds asks i ask (IfNamed all) (IfNamed one) i 0 1 0 _ pre _ c.loop-ask-test.true c.ask-item.is
+    (named_then all one (λ names. read_all (AskWithin (has_cell names)) asks i ask c.loop-ask-test.true c.ask-item.is))
     c.loop-ask.invariant next

@@ -1,12 +1,11 @@
-use Rattle.std.specs.Prelude.{not, [], All}
-use Rattle.cap_summary.specs.{Asks.asks_of, Asks.IsOpen, Preconditions.IsPulledBack}
-use Rattle.cap_summary.proofs.{sym, ap, ◌∙◌, Together.one_certain, Together.none_holds}
-use Rattle.cap_summary.proofs.Meeting.{nothing_more, now_certain, one_refusal, never_wrongful, always_wrongful}
+use Rattle.cap_summary.proofs.{Together.none_holds, Together.one_certain, ap, sym, ◌∙◌}
+use Rattle.cap_summary.proofs.Meeting.{always_wrongful, never_wrongful, nothing_more, now_certain, one_refusal}
 use Rattle.cap_summary.proofs.precondition.Precondition.refuse_after.Goals.{After-is_certain}
+use Rattle.cap_summary.specs.{All, Asks.IsOpen, Asks.asks_of, Preconditions.IsPulledBack, not}
 use Rattle.cap_summary.proofs.precondition.Precondition.refuse_after.Goals as goal
 
 -- what is left to ask before the first segment
-back : (c : After-is_certain) → IsPulledBack c.args.first.now (asks_of c.args.unless.now) (asks_of c.in-Some.asks) []
+back : (c : After-is_certain) → IsPulledBack c.args.first.now (asks_of c.args.unless.now) (asks_of c.in-Some.asks)
 back c = rw c.in-Some.is at c.before-pulled.ensures.asks
 
 can : (c : After-is_certain) → All IsOpen (asks_of c.in-Some.asks)

@@ -1,7 +1,7 @@
 use Rattle.std.specs.Prelude.{◌+◌, ◌≤◌}
-use Rattle.cap_summary.specs.{Sorted.found}
-use Rattle.cap_summary.proofs.SortedMerging.{Rises-from, bound_le, merged_all, left_out, put_last}
+use Rattle.cap_summary.specs.Sorted.{found}
 use Rattle.cap_summary.proofs.sorted.merging.merge.Goals.{In-Some, In_ok-made}
+use Rattle.cap_summary.proofs.SortedMerging.{Rises-from, bound_le, left_out, merged_all, put_last}
 use Rattle.cap_summary.proofs.sorted.merging.merge.Goals as goal
 
 pub first_key-requires-clause-left : goal.first_key-requires-clause-left

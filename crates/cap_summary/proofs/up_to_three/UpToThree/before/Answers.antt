@@ -1,6 +1,6 @@
-use Rattle.std.specs.Prelude.{◌≡◌, ◌<◌, [], List, length, get_or}
-use Rattle.cap_summary.specs.{Asks.asks_of, Asks.IsOpen, declared.ask.Ask.Ask}
-use Rattle.cap_summary.proofs.{sym, All-push, Pulling.pulled_never, Pulling.pulled_kept}
+use Rattle.std.specs.Prelude.{◌≡◌, ◌<◌, ◌++◌, [], List, length, get_or, take}
+use Rattle.cap_summary.specs.{Asks.asks_of, Asks.IsOpen, declared.ask.Ask.Ask, Preconditions.IsPulledBack}
+use Rattle.cap_summary.proofs.{sym, append-nil, All-push, Pulling.pulled_never, Pulling.pulled_put}
 use Rattle.cap_summary.proofs.up_to_three.UpToThree.before.Goals as goal
 
 pub loop-ask-preserved : goal.loop-ask-preserved
@@ -13,17 +13,18 @@ loop-ask-preserved c =
     let within : i < length asks = rw c.as_slice-ask-items.ensures.asks at c.loop-ask-test.true in
     let is : ask ≡ get_or asks i ask = rw c.as_slice-ask-items.ensures.asks at c.ask-item.is in
     let so_far = c.loop-ask.invariant in
+    let back : IsPulledBack first (take i asks) (kept ++ []) = rw append-nil so_far.back in
     let pulled = c.before-in-loop-ask.ensures in
     elim c.match-before.branch [
       | goal.in-Never w ↦ record {
-        back = rw w.before-is (pulled_never first asks i ask kept [] within is so_far.back
-            (λ s. sym (rw w.in-Never.is at (pulled.holds s))));
+        back = rw w.before-is (rw append-nil at (pulled_never first asks i ask kept [] within is back
+            (λ s. sym (rw w.in-Never.is at (pulled.holds s)))));
         can = rw w.before-is so_far.can;
       }
       | goal.in-Where w ↦
           let may : IsOpen w.in-Where.ask = rw w.in-Where.is at pulled.open in record {
-            back = rw (w.before-is, w.push.ensures) (pulled_kept first asks i ask kept [] within is so_far.back
-                w.in-Where.ask (λ can. may) (rw w.in-Where.is at pulled.holds) (rw w.in-Where.is at pulled.names));
-            can = rw (w.before-is, w.push.ensures) (All-push IsOpen kept w.in-Where.ask so_far.can may);
+            back = rw (w.before-is, w.push.ensures.asks) (rw append-nil at (pulled_put first asks i ask kept [] within is
+                back w.in-Where.ask (λ can. may) (rw w.in-Where.is at pulled.holds) (rw w.in-Where.is at pulled.names)));
+            can = rw (w.before-is, w.push.ensures.asks) (All-push IsOpen kept w.in-Where.ask so_far.can may);
           }
     ]

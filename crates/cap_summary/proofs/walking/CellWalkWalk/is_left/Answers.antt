@@ -1,5 +1,5 @@
-use Rattle.cap_summary.specs.{declared.key.Key.Key}
-use Rattle.cap_summary.proofs.{sym, ◌∙◌, Walks.cell_left_out}
+use Rattle.cap_summary.proofs.{Walks.cell_left_out, sym, ◌∙◌}
+use Rattle.cap_summary.specs.declared.key.Key.{Key}
 use Rattle.cap_summary.proofs.walking.CellWalkWalk.is_left.Goals as goal
 
 pub returns : goal.returns

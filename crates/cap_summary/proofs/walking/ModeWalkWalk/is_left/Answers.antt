@@ -1,5 +1,5 @@
-use Rattle.cap_summary.specs.{declared.key.Key.Key}
-use Rattle.cap_summary.proofs.{sym, ◌∙◌, Walks.mode_left_out}
+use Rattle.cap_summary.proofs.{Walks.mode_left_out, sym, ◌∙◌}
+use Rattle.cap_summary.specs.declared.key.Key.{Key}
 use Rattle.cap_summary.proofs.walking.ModeWalkWalk.is_left.Goals as goal
 
 pub returns : goal.returns
