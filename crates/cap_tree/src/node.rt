@@ -152,8 +152,21 @@ impl<S: Segment> Node<S> {
         Node::over(alloc, summary, left, right)
     }
 
-    /// The high part on the side and the low one, which an edit has set two levels apart: the inner part of the high one
-    /// goes to the low one, or where it is the higher part, its own two parts go to either side.
+    /// The part of a branch on the side, and the other one.
+    fn parts(&self, side: Side) -> Result<(Rc<Node<S>>, Rc<Node<S>>), NoMemory>
+        requires branch { 0 < self.now.1 }
+        ensures items { IfOk result (λ two. beside side two.0.value.0 two.1.value.0 ≡ self.now.0) }
+        ensures height { IfOk result (λ two. self.now.1 ≡ max two.0.value.1 two.1.value.1 + 1) }
+        ensures balanced { IfOk result (λ two. DifferByAtMost 1 two.0.value.1 two.1.value.1) }
+    {
+        let Shape::Branch(left, right) = &self.shape else {
+            unreachable!()
+        };
+        Ok(side.order(left.clone()?, right.clone()?))
+    }
+
+    /// The high part on the side and the low one, which an edit has set two levels apart: the inner part of the high
+    /// one goes to the low one, or where it is the higher part, its own two parts go to either side.
     fn rotate(
         alloc: Global,
         meter: &mut Meter,
@@ -169,20 +182,14 @@ impl<S: Segment> Node<S> {
         ensures not_less { meter.old ≤ meter.new }
         ensures joins { meter.new ≤ meter.old + 3 }
     {
-        let Shape::Branch(left, right) = &high.shape else {
-            unreachable!()
-        };
-        let (outer, inner) = side.order(left, right);
+        let (outer, inner) = high.parts(side)?;
         if outer.height() >= inner.height() {
-            let lower = Node::branch(alloc, meter, side, inner.clone()?, low)?;
-            return Node::branch(alloc, meter, side, outer.clone()?, lower);
+            let lower = Node::branch(alloc, meter, side, inner, low)?;
+            return Node::branch(alloc, meter, side, outer, lower);
         }
-        let Shape::Branch(left, right) = &inner.shape else {
-            unreachable!()
-        };
-        let (near, far) = side.order(left, right);
-        let front = Node::branch(alloc, meter, side, outer.clone()?, near.clone()?)?;
-        let back = Node::branch(alloc, meter, side, far.clone()?, low)?;
+        let (near, far) = inner.parts(side)?;
+        let front = Node::branch(alloc, meter, side, outer, near)?;
+        let back = Node::branch(alloc, meter, side, far, low)?;
         Node::branch(alloc, meter, side, front, back)
     }
 
@@ -273,8 +280,8 @@ impl<S: Segment> Node<S> {
             side,
             similarity,
         )?;
-        let node = Node::over(alloc, summary, left, right)?;
-        Ok((node, similarity))
+        let whole = Node::over(alloc, summary, left, right)?;
+        Ok((whole, similarity))
     }
 
     /// The node after an edit at a place, at most one level higher or lower, and what of both nodes is known to be the
@@ -321,8 +328,8 @@ impl<S: Segment> Node<S> {
         }
     }
 
-    /// The leaf after an edit at a place, or a branch over two leaves; none where no item is left. For a new item at either
-    /// end the leaf's own summary serves.
+    /// The leaf after an edit at a place, or a branch over two leaves; none where no item is left. For a new item at
+    /// either end the leaf's own summary serves.
     fn edit_leaf(
         this: &Rc<Node<S>>,
         alloc: Global,

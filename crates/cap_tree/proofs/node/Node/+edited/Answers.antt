@@ -1,5 +1,6 @@
 use Rattle.std.proofs.Common.{ap}
 use Rattle.cap_tree.proofs.Edited.{edited-beside, beside-nothing, few-beside}
+use Rattle.cap_tree.proofs.Replaced.{joined-at, have-changed, joins-of-part}
 use Rattle.cap_tree.proofs.node.Node.+edited.Goals as goal
 
 pub returns-in-None-changed-clause-items : goal.returns-in-None-changed-clause-items
@@ -32,3 +33,29 @@ rebalance-requires-clause-few g t c =
     rw (part, c.in_ok-kept-in-Branch.ensures.cases)
     (few-beside c.of_place-side.result.0 _ _ c.args.this.now.value.0 c.args.edit c.args.at (rw all at new) few
     c.requires.allowed)
+
+pub rebalance-requires-clause-old : goal.rebalance-requires-clause-old
+rebalance-requires-clause-old g t c =
+    let whole = ap (λ d. d.2) (rw c.in-Branch.is at c.node.view_is) in
+    let composed = rw c.in-Branch.is at c.node.invariant.composed in
+    let old = joined-at g.S.Segment.composes (λ n. n.now.value.2) c.of_place-side.result.0 _ _ _ _ _
+    c.order.ensures.part c.order.ensures.other composed in
+    rw (c.deref-in-Some-changed.ensures, c.in_ok-kept-in-Branch.ensures.cases, ← whole) old
+
+pub rebalance-requires-clause-changed : goal.rebalance-requires-clause-changed
+rebalance-requires-clause-changed g t c =
+    let whole = ap (λ d. d.1) (rw c.in-Branch.is at c.node.view_is) in
+    let balanced = rw c.in-Branch.is at c.node.invariant.balanced in
+    let near = rw c.in-Some-changed.is at c.in_ok-changed-in-Branch.ensures.height in
+    let changed = have-changed (λ n. n.now.value.1) c.of_place-side.result.0 _ _ _ _ _ _
+    c.order.ensures.part c.order.ensures.other balanced.0 balanced.1 near in
+    rw (c.in_ok-kept-in-Branch.ensures.cases, ← whole) changed
+
+pub returns-in_ok-new-in-Some-changed-clause-joins : goal.returns-in_ok-new-in-Some-changed-clause-joins
+returns-in_ok-new-in-Some-changed-clause-joins g t c =
+    let all = rw c.deref-node.ensures at (ap (λ d. d.0) (rw c.in-Branch.is at c.node.view_is)) in
+    let whole = rw c.deref-node.ensures at (ap (λ d. d.1) (rw c.in-Branch.is at c.node.view_is)) in
+    let balanced = rw c.in-Branch.is at c.node.invariant.balanced in
+    let joins = joins-of-part (λ n. n.now.value.0) (λ n. n.now.value.1) c.of_place-side.result.0 _ _ _ _ _ _ _ _
+    c.order.ensures.part balanced.0 c.edited.ensures.joins c.rebalance.ensures.joins in
+    rw (← all, ← whole) joins

@@ -1,0 +1,8 @@
+use Rattle.cap_tree.proofs.Replaced.{ordered}
+use Rattle.cap_tree.proofs.node.Node.rebalance.Goals as goal
+
+pub returns-clause-items : goal.returns-clause-items
+returns-clause-items g c =
+    let order = ordered (λ n. n.value.0) c.args.side _ _ c.args.part c.args.other c.order-left.ensures.part
+    c.order-left.ensures.other in
+    rw order at c.in_ok-whole.ensures.items
