@@ -351,11 +351,9 @@ impl<S: Segment> Node<S> {
             unreachable!()
         };
         let new = match edit {
-            Edit::Insert(item) if at == 0 => {
-                Node::insert_at_end(this, alloc, meter, Side::Left, item)?
-            }
-            Edit::Insert(item) if at == run.len() => {
-                Node::insert_at_end(this, alloc, meter, Side::Right, item)?
+            Edit::Insert(item) if at == 0 || at == run.len() => {
+                let side = if at == 0 { Side::Left } else { Side::Right };
+                Node::insert_at_end(this, alloc, meter, side, item)?
             }
             edit => {
                 let run = run::edited(alloc, run, at, edit)?;
