@@ -1,13 +1,11 @@
-//! A segment that is its list of numbers, so that a summary can be compared with the items.
-ghost use Rattle.std.specs.Prelude.{◌≡◌, ◌++◌, length, IfOk};
+//! A segment that is its list of numbers, so that a summary can be compared with the items. It has the trait's own
+//! `sum` and `rejoin`.
+ghost use Rattle.std.specs.Prelude.{◌≡◌, length};
 ghost use Rattle.std.proofs.Common.{ap};
 
 use cap_tree::{Meter, NoMemory, Segment};
 use std::alloc::Global;
 use std::rc::Rc;
-
-#[cfg(test)]
-mod tests;
 
 /// The numbers as they are.
 #[derive(Drop)]
@@ -44,19 +42,11 @@ impl Segment for Listed {
         left: &Listed,
         right: &Listed,
     ) -> Result<Listed, NoMemory> {
-        let list = appended(&left.list, right.list.as_slice())?;
+        let mut list = left.list.clone()?;
+        list.extend_from_slice(right.list.as_slice())?;
         meter.tick();
         Ok(Listed { list })
     }
 
     ghost sized = { λ s t e. ap length e };
-}
-
-/// The numbers of both.
-pub(crate) fn appended(front: &Vec<u32>, back: &[u32]) -> Result<Vec<u32>, NoMemory>
-    ensures { IfOk result (λ list. list.items ≡ front.now.items ++ back.now) }
-{
-    let mut list = front.clone()?;
-    list.extend_from_slice(back)?;
-    Ok(list)
 }
