@@ -15,8 +15,9 @@ import sys
 ROOT = os.path.join(os.path.dirname(os.path.dirname(os.path.abspath(__file__))), "crates")
 USE = {
     ".antt": re.compile(r"^ *(?:pub )?use ([^\s{]+?)(?:\.\{([^}]*)\})?(?: as (\S+))?$", re.M),
-    ".rt": re.compile(r"^ *(?:pub )?ghost use ([^;{]+?)(?:\.\{([^}]*)\})?(?: as ([^;]+))?;", re.M),
+    ".rt": re.compile(r"^ *(?:pub )?ghost use ([^;{]+?)(?:\.\{((?:[^{}]|\{[^{}]*\})*)\})?(?: as ([^;]+))?;", re.M),
 }
+INNER = re.compile(r"([\w.]+)\.\{([^{}]*)\}")  # a list in such a list
 COMMENT = {".antt": re.compile(r"(?:^|(?<=\s))--[^\n]*"), ".rt": re.compile(r"//[^\n]*")}
 CITED = re.compile(r"crate::((?:proofs|specs)::[\w:]+)")  # in an attribute of a contract
 WORD = re.compile(r"[A-Za-z_][\w\-']*")
@@ -36,6 +37,7 @@ class Source:
         self.imports = collections.defaultdict(dict)  # by module, the name here of each name there
         for module, names, alias in USE[kind].findall(text):
             if names:
+                names = INNER.sub(lambda it: ", ".join(f"{it[1]}.{name.strip()}" for name in it[2].split(",")), names)
                 for path, _, here in (it.strip().partition(" as ") for it in names.split(",")):
                     below, _, name = path.rpartition(".")
                     self.imports[f"{module}.{below}" if below else module][name] = here or name
