@@ -1,10 +1,10 @@
 -- What is known is kept where few processes and descriptors are named, unless many calls were refused.
 use Rattle.std.specs.Prelude.{All, Bool, List, None, Some, [], cond, eqb, ℕ, ◌*◌, ◌++◌, ◌+◌, ◌<◌, ◌∷◌, ◌≡◌, ◌≤◌, ◌⊎◌}
 use Rattle.cap_summary.specs.{Preconditions.IsSettled, declared.known.Known.Known, declared.node.Content.Content, false}
-use Rattle.cap_summary.specs.{Content.KeepsParts, RowSizes.CellsRise, RowSizes.rows_size, Step, declared.effect.Row.Row}
-use Rattle.cap_summary.specs.{LineAsks.refused, RowSizes.AllRise, Sorted.KeysRise, Sorted.Rises, Sorted.RisesFrom, refl}
+use Rattle.cap_summary.specs.{Kept.KeepsParts, Keys.CellsRise, Keys.rows_size, Step, declared.effect.Row.Row}
+use Rattle.cap_summary.specs.{LineAsks.refused, Keys.AllRise, min, Sorted.KeysRise, Sorted.Rises, Sorted.RisesFrom, refl}
 use Rattle.cap_summary.specs.{IfNone, IfSome, Knows.Knows, Option, Sorted.found, is_some, length, nat_le, true}
-use Rattle.cap_summary.specs.Kept.{IsKept, IsLarge, IsWithin, ListsMany, NameOrRefuseMany, is_one, limit, room, these}
+use Rattle.cap_summary.specs.Kept.{IsKept, IsLarge, IsWithin, ListsMany, NameOrRefuseMany, is_one, room, these}
 use Rattle.cap_summary.specs.declared.node.Content.TheVariants.{Both, Run}
 use Rattle.cap_summary.specs.Names.{AreAmong, IsListedWithin, IsRowWithin, ListWithin, RowsWithin, names_in}
 use Rattle.cap_summary.proofs.{Knowing.refused_parts, SortedFound.found_below, SortedFound.rises_again, inl, nat_tests}
@@ -64,7 +64,7 @@ module _ (pids fds : List ℕ) where
 -- ---- what isn't kept
 
 -- more than is kept, with few refusals, is more than 1,024 cells and modes give
-many_cells : (n rows asks refusals refused room : ℕ) → (limit n < rows) ⊎ (40000 < rows + (asks + refusals))
+many_cells : (n rows asks refusals refused room : ℕ) → (min 8192 (1024 + n) < rows) ⊎ (40000 < rows + (asks + refusals))
     → rows ≤ room → asks ≤ 8 * room → refusals ≤ refused → refused ≤ 30000 → 1024 < room
 many_cells n rows asks refusals refused room large few_rows few_asks some few = grind (arith, large, few_rows, few_asks, some, few)
 

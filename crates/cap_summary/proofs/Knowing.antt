@@ -1,6 +1,6 @@
 -- What a summary says after one more step, or one more segment.
 use Rattle.std.specs.Prelude.{List, [], false, get_or, if◌then◌else◌, length, map, take, ◌++◌, ◌+◌, ◌<◌, ◌||◌, ◌∷◌, ◌≡◌}
-use Rattle.std.specs.Prelude.{ℕ, ◌≤◌}
+use Rattle.std.specs.Prelude.{true, ℕ, ◌≤◌}
 use Rattle.cap_summary.proofs.{LineAsking.has_any-append, checks_in_turn, checks_more, ends_in_turn, length-append, sym}
 use Rattle.cap_summary.proofs.{All-append, All-cons, All-nil, ap, arith, fun_ext, map-append, take_more, ◌∙◌}
 use Rattle.cap_summary.proofs.Naming.{asks_among, effect_among, first_among, second_among}
@@ -12,7 +12,7 @@ use Rattle.cap_summary.specs.{Asks.AreWithin, Composing.IsJoined, Keys.cells_of,
 use Rattle.cap_summary.specs.{Keys.Cells, Knows.Knows, Knows.Says, LineEffect, effect_touch, effect_turn, requirement}
 use Rattle.cap_summary.specs.{State, Turn, check, ended, kept, later, said, stays, touch, touched, turn, values}
 use Rattle.cap_summary.specs.Names.{AreAmong, EffectWithin, LineWithin, Names, has_cell, names_in}
-use Rattle.cap_summary.specs.Effects.{IsThenLine, LeavesThenLine, LineLeaves, changed, line_after, turned_cell}
+use Rattle.cap_summary.specs.Effects.{LineLeaves, changed, leaves, line_after, turned_cell}
 use Rattle.cap_summary.specs.LineAsks.{asked_holds, asks_in, has_any, is_refusal, refusals_in, refused}
 use Rattle.cap_summary.specs.Preconditions.{AllSaid, IfNamed, IsWithMore, Open, Saying, Within, asks_size, is_met}
 
@@ -137,7 +137,8 @@ module _ (step : Step) (line : LineEffect) (me : ℕ) (cells : (p f : ℕ) → e
       (All-nil (λ (step : Step). touch step p f ≡ kept))
 
   pub after_more : (effect new : Effect) (t : List Step) (s : State)
-      → ((p : ℕ) (k : Key) → changed effect (cells_of s) p k ≡ cells_of (ended s t) p k) → IsThenLine effect line me new
+      → ((p : ℕ) (k : Key) → changed effect (cells_of s) p k ≡ cells_of (ended s t) p k)
+      → ((cells : Cells) (p : ℕ) (k : Key) → changed new cells p k ≡ line_after line me (changed effect cells) p k)
       → (p : ℕ) (k : Key) → changed new (cells_of s) p k ≡ cells_of (ended s (t ++ step ∷ [])) p k
   after_more effect new t s so_far does p k = does (cells_of s) p k
       ∙ ap (λ (cells : Cells). line_after line me cells p k) (fun_ext (λ q. fun_ext (λ j. so_far q j)))
@@ -145,9 +146,12 @@ module _ (step : Step) (line : LineEffect) (me : ℕ) (cells : (p f : ℕ) → e
       ∙ ap (λ (state : State). cells_of state p k) (sym (ends_more s t step))
 
   pub says_more : (effect new : Effect) (pre more : Precondition) (asks : LineAsks) (t : List Step)
-      → Says effect pre t → IsThenLine effect line me new → LeavesThenLine effect line me new
+      → Says effect pre t
+      → ((cells : Cells) (p : ℕ) (k : Key) → changed new cells p k ≡ line_after line me (changed effect cells) p k)
+      → ((p : ℕ) (k : Key) → leaves new p k ≡ true → (leaves effect p k ≡ true) × LineLeaves line me p k)
       → IsWithMore effect (λ cells. asked_holds cells asks)
-      (IfNamed (λ names. AreWithin (has_cell names) (asks_in asks))) 3 (refusals_in asks) pre more → ((s : State) → asked_holds (cells_of s) asks ≡ has_any (said step s))
+      (IfNamed (λ names. AreWithin (has_cell names) (asks_in asks))) 3 (refusals_in asks) pre more
+      → ((s : State) → asked_holds (cells_of s) asks ≡ has_any (said step s))
       → ((names : Names) → LineWithin names me line → EffectWithin names effect → EffectWithin names new)
       → LineWithin (names_in (t ++ step ∷ [])) me line
       → AreWithin (has_cell (names_in (t ++ step ∷ []))) (asks_in asks)

@@ -18,7 +18,6 @@ pub mod Pulling
 pub mod Equal
 pub mod Runs
 pub mod Knowing
-pub mod Counting
 pub mod Keeping
 pub mod Rejoining
 pub mod OwnCells

@@ -1,22 +1,19 @@
 -- The descriptors that the effect of a line has one by one stand in the line.
+use Rattle.std.specs.Prelude.{All, [], bytes_eq, codes, false, not, refl, suc, true, ℕ, ◌&&◌, ◌+◌, ◌==◌, ◌||◌, ◌∷◌, ◌≡◌}
 use Rattle.cap_summary.proofs.{All-cons, All-nil, arith, common_steps, eq-eqb, ne_eqb, or-false, or_left, or_right, sym}
-use Rattle.cap_summary.proofs.{ap, ◌∙◌}
-use Rattle.std.specs.Prelude.{All, Bool, [], bytes_eq, codes, cond, false, refl, slice_index_or, true, ◌&&◌, ◌==◌, ◌||◌}
-use Rattle.std.specs.Prelude.{not, suc, ℕ, ◌+◌, ◌∷◌, ◌≡◌}
-use Rattle.cap_summary.specs.{LineEffect, Names.answers_fd, Names.line_names_fd, ResultKind, effect_touch, fds_spelled}
-use Rattle.cap_summary.specs.{Answer, Count, FdPair, Touch, Unknown, fds_of, given, kind_of, list_any, started, taken}
-use Rattle.cap_summary.specs.{Cell, Fd, Item, Op, Same, Step, kept, same, touch}
-use Rattle.cap_machine.specs.{Named.answer_names, Named.arg_names, Named.is_fork, declared.cell.Profile.Profile}
+use Rattle.cap_summary.specs.{Names.answers_fd, Names.line_names_fd, Unknown, effect_touch, fds_spelled, slice_index_or}
+use Rattle.cap_summary.specs.{Answer, LineEffect, ResultKind, Touch, fds_of, given, kind_of, list_any, started, taken}
+use Rattle.cap_trace.specs.declared.calls.FdCall.{FdCall, TheVariants.Accept, TheVariants.Closefrom, TheVariants.Dup}
+use Rattle.cap_trace.specs.declared.calls.{BareCall.BareCall, PathCall.PathCall, PathCall.TheVariants.Execve}
+use Rattle.cap_trace.specs.{Call.Call, Entry.args_of_call, declared.calls.AtFlagsCall.TheVariants.Openat}
+use Rattle.cap_trace.specs.declared.calls.BareCall.TheVariants.{CapEnter, Fork, Pdfork, Pipe, Vfork}
 use Rattle.cap_machine.specs.Touch.{bare_touch, call_touch, fd_touch, path_touch, pdfork_touch}
-use Rattle.cap_machine.specs.declared.cell.Profile.TheVariants.{One, Two}
-use Rattle.cap_machine.proofs.NamedFds.{named_effects}
-use Rattle.cap_trace.specs.{declared.calls.AtFlagsCall.TheVariants.Openat, declared.calls.BareCall.TheVariants.CapEnter}
-use Rattle.cap_trace.specs.{declared.calls.BareCall.TheVariants.Pdfork, declared.calls.PathCall.TheVariants.Execve}
-use Rattle.cap_trace.specs.{declared.calls.BareCall.TheVariants.Fork, declared.calls.BareCall.TheVariants.Vfork}
-use Rattle.cap_trace.specs.{Call.Call, declared.calls.BareCall.BareCall, declared.calls.BareCall.TheVariants.Pipe}
-use Rattle.cap_trace.specs.{Entry.args_of_call, declared.calls.FdCall.FdCall, declared.calls.PathCall.PathCall}
-use Rattle.cap_trace.specs.declared.calls.FdCall.TheVariants.{Accept, Closefrom, Dup}
+use Rattle.cap_machine.specs.declared.cell.Profile.{Profile, TheVariants.One, TheVariants.Two}
 use Rattle.cap_trace.specs.declared.calls.FlagsCall.TheVariants.{Pipe2, Socket, Socketpair}
+use Rattle.cap_summary.specs.{Bool, Cell, Item, Op, Step, cond, kept, same, touch}
+use Rattle.cap_machine.specs.Named.{answer_names, arg_names, is_fork}
+use Rattle.cap_machine.proofs.NamedFds.{named_effects}
+use Rattle.cap_summary.proofs.{ap, ◌∙◌}
 
 by_cases : {X : Type 0} (b : Bool) → (b ≡ true → X) → (b ≡ false → X) → X
 by_cases true one other = one refl
@@ -26,16 +23,16 @@ by_cases false one other = other refl
 
 -- the numbers of an answer are descriptors
 abbrev is_told : ResultKind → Answer → Bool
-is_told Fd (Answer.Made n) = true
-is_told (Same g) (Answer.Made n) = true
-is_told FdPair (Answer.Pair n m) = true
+is_told ResultKind.Fd (Answer.Made n) = true
+is_told (ResultKind.Same g) (Answer.Made n) = true
+is_told ResultKind.FdPair (Answer.Pair n m) = true
 is_told kind answer = false
 
 told_named : (f : ℕ) (kind : ResultKind) (answer : Answer) → is_told kind answer ≡ true → answer_names f answer ≡ true
     → answers_fd f kind answer ≡ true
-told_named f Fd (Answer.Made n) told named = named
-told_named f (Same g) (Answer.Made n) told named = named
-told_named f FdPair (Answer.Pair n m) told named = named
+told_named f ResultKind.Fd (Answer.Made n) told named = named
+told_named f (ResultKind.Same g) (Answer.Made n) told named = named
+told_named f ResultKind.FdPair (Answer.Pair n m) told named = named
 told_named f kind answer told named = absurd cc
 
 -- another number
@@ -44,7 +41,7 @@ other n (Answer.Made m) = Answer.Made n
 other n (Answer.Pair m k) = Answer.Pair n n
 other n (Answer.Fault e) = Answer.Fault e
 
-either_alike : (a b : Bool) (m : ℕ) (t u t' u' : Touch) → is_told (cond (a || b) Fd Count) (Answer.Made m) ≡ false
+either_alike : (a b : Bool) (m : ℕ) (t u t' u' : Touch) → is_told (cond (a || b) ResultKind.Fd ResultKind.Count) (Answer.Made m) ≡ false
     → cond a t (cond b u kept) ≡ cond a t' (cond b u' kept)
 either_alike true b m t u t' u' none = absurd cc
 either_alike false true m t u t' u' none = absurd cc

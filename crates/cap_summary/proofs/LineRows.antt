@@ -1,11 +1,11 @@
 -- The cells after a line, by the rows of the processes that it touches.
 use Rattle.cap_summary.proofs.{Bools.or_right, ap, eq-eqb, eqb-true, inl, inr, or-false, subst, sym, ◌∙◌}
-use Rattle.std.specs.Prelude.{Bool, List, cond, false, refl, true, ℕ, ◌==◌, ◌||◌, ◌≡◌}
+use Rattle.std.specs.Prelude.{Bool, List, cond, false, refl, true, ℕ, ◌==◌, ◌||◌, ◌≡◌, ◌⊎◌}
 use Rattle.cap_summary.specs.{Keys.Cells, declared.effect.Effect.Effect, declared.effect.Row.Row, declared.key.Key.Key}
 use Rattle.cap_summary.specs.{Closed, LineEffect, Sorted.found, Unknown, Unsure, applied, follows, is_child, touched}
 use Rattle.cap_summary.specs.{Cell, Clear, Held, Set, given, kept, same, stays, taken}
-use Rattle.cap_summary.specs.Effects.{LeavesPut, LineLeaves, is_touched, leaves_in, line_after, row_leaves, turned_cell}
-use Rattle.cap_summary.specs.Effects.{IsPut, cell_in, changed, leaves, row_cell}
+use Rattle.cap_summary.specs.Effects.{LineLeaves, is_touched, leaves_in, line_after, row_leaves, turned_cell}
+use Rattle.cap_summary.specs.Effects.{cell_in, changed, leaves, row_cell}
 
 -- ---- a process that isn't touched keeps its cells
 untouched_left : (line : LineEffect) (me p : ℕ) → is_touched line me p ≡ false → (k : Key) → LineLeaves line me p k
@@ -67,8 +67,9 @@ touched_so line me p cells k is = ap (λ q. line_after line me cells q k) (eqb-t
 module _ (first : Effect) (new : List (ℕ × Row)) (line : LineEffect) (me : ℕ) (own row : Row) where
   pub then_line : ((cells : Cells) (k : Key) → row_cell cells me own k ≡ line_after line me cells me k)
       → ((cells : Cells) (k : Key) → row_cell cells me row k ≡ row_cell (changed first cells) me own k)
-      → IsPut line me row first.rows new → (cells : Cells) (p : ℕ) (k : Key)
-      → cell_in cells (found new p) p k ≡ line_after line me (changed first cells) p k
+      → ((cells : Cells) (p : ℕ) (k : Key) → cell_in cells (found new p) p k
+      ≡ cond (is_touched line me p) (row_cell cells me row k) (changed first cells p k))
+      → (cells : Cells) (p : ℕ) (k : Key) → cell_in cells (found new p) p k ≡ line_after line me (changed first cells) p k
   then_line of_line after put cells p k = put cells p k ∙ by (is_touched line me p) refl
     where
       by : (b : Bool) → is_touched line me p ≡ b
@@ -79,7 +80,10 @@ module _ (first : Effect) (new : List (ℕ × Row)) (line : LineEffect) (me : �
 
   pub then_leaves : (is_child line me ≡ false → (k : Key) → row_leaves own k ≡ true → LineLeaves line me me k)
       → ((k : Key) → row_leaves row k ≡ true → (leaves first me k ≡ true) × (row_leaves own k ≡ true))
-      → LeavesPut line me row first.rows new → (p : ℕ) (k : Key) → leaves_in (found new p) k ≡ true
+      → ((p : ℕ) (k : Key) → leaves_in (found new p) k ≡ true
+      → ((is_touched line me p ≡ false) × (leaves first p k ≡ true))
+      ⊎ ((p ≡ me) × (is_child line me ≡ false) × (row_leaves row k ≡ true)))
+      → (p : ℕ) (k : Key) → leaves_in (found new p) k ≡ true
       → (leaves first p k ≡ true) × LineLeaves line me p k
   then_leaves own_left after put p k left = elim (put p k left) [
     | inl other ↦ (other.1, untouched_left line me p other.0 k)

@@ -1,17 +1,16 @@
 -- What is named by some lines is named by more.
-use Rattle.std.specs.Prelude.{Bool, List, None, Some, [], ℕ, ◌++◌, ◌==◌, ◌∷◌, ◌≡◌}
-use Rattle.cap_summary.proofs.{Bools.and_left, and_from, eq-eqb, list_any-append, or-true, ◌∙◌}
-use Rattle.cap_summary.specs.{declared.base.DefaultCells.DefaultCells, declared.precondition.Precondition.Precondition}
-use Rattle.cap_summary.specs.{declared.effect.Effect.Effect, declared.effect.Row.Row, declared.value.Value.Value, false}
-use Rattle.cap_summary.specs.{Preconditions.AllSaid, Preconditions.Within, Values.reads_within, declared.key.Key.Key}
-use Rattle.cap_summary.specs.{LineEffect, Sorted.found, Step, args_name, effect_touch, list_any, names_pid, requirement}
-use Rattle.cap_summary.specs.{IfSome, Option, Unknown, cond, given, kept, refl, same, taken, touch, true}
-use Rattle.cap_summary.specs.Names.{DemandWithin, IsListedWithin, Names, item_answers_fd, line_names_fd, others_within}
-use Rattle.cap_summary.specs.Names.{ChildWithin, EffectWithin, IsRowWithin, LineWithin, RowWithin, has_key, mode_within}
-use Rattle.cap_summary.specs.Names.{AreAmong, has_cell, names_in}
+use Rattle.std.specs.Prelude.{Bool, IfSome, List, None, Option, Some, [], cond, false, refl, true, ◌++◌, ◌==◌, ◌∷◌, ◌≡◌}
+use Rattle.cap_summary.specs.Names.{AreAmong, DemandWithin, EffectWithin, item_answers_fd, line_names_fd, others_within}
+use Rattle.cap_summary.specs.Names.{IsRowWithin, LineWithin, Names, RowWithin, has_cell, has_key, mode_within, names_in}
+use Rattle.cap_summary.specs.{LineEffect, Sorted.found, args_name, effect_touch, given, requirement}
+use Rattle.cap_summary.proofs.{LineNamed.named_one_by_one, list_any-append, or_left as or_first, or_right as or_second}
+use Rattle.cap_summary.specs.{Keys.reads_within, Names.IsListedWithin, Preconditions.AllSaid, Preconditions.Within, ℕ}
+use Rattle.cap_summary.specs.declared.{base.DefaultCells.DefaultCells, precondition.Precondition.Precondition}
+use Rattle.cap_summary.specs.declared.{effect.Effect.Effect, effect.Row.Row, key.Key.Key, value.Value.Value}
+use Rattle.cap_summary.proofs.{Bools.and_left, Bools.and_right, and_from, eq-eqb, or-true, ◌∙◌}
+use Rattle.cap_summary.specs.{Step, is_child, Unknown, kept, list_any, names_pid, same, taken, touch}
 use Rattle.cap_machine.proofs.{NamedFds.named_checks, Naming.own_processes}
-use Rattle.std.proofs.lemmas.Bool.{true_from_ne_false}
-use Rattle.cap_summary.proofs.{or_left as or_first, or_right as or_second, Bools.and_right, LineNamed.named_one_by_one}
+use Rattle.std.proofs.lemmas.{Bool.true_from_ne_false}
 
 module _ (a b : Names) (among : AreAmong a b) where
   key_among : (k : Key) → has_key a k ≡ true → has_key b k ≡ true
@@ -105,13 +104,12 @@ module _ (step : Step) (t : List Step) where
       pid_in p (true_from_ne_false (names_pid p step.line) (λ other. touches (own_processes step p 0 other)))
 
   child_in : (line : LineEffect) → ((p f : ℕ) → effect_touch line step.line.pid p f ≡ touch step p f)
-      → ChildWithin named line
-  child_in (LineEffect.Fork child) does = touched_in child (λ is.
-      never_kept false step.line.pid 0 (rw (eq-eqb child child refl) at (does child 0 ∙ is)))
-  child_in (LineEffect.ForkAs child g) does = touched_in child (λ is.
-      never_kept (0 == g) step.line.pid 0
-      (rw (eq-eqb child child refl, or-true (child == step.line.pid)) at (does child 0 ∙ is)))
-  child_in _ does = tt
+      → (p : ℕ) → is_child line p ≡ true → named.pids p ≡ true
+  child_in (LineEffect.Fork child) does p is = touched_in p (λ stays.
+      never_kept false step.line.pid 0 (rw is at (does p 0 ∙ stays)))
+  child_in (LineEffect.ForkAs child g) does p is = touched_in p (λ stays.
+      never_kept (0 == g) step.line.pid 0 (rw (is, or-true (p == step.line.pid)) at (does p 0 ∙ stays)))
+  child_in _ does p is = absurd cc
 
   pub line_in : (line : LineEffect) → ((p f : ℕ) → effect_touch line step.line.pid p f ≡ touch step p f)
       → LineWithin named step.line.pid line

@@ -1,13 +1,12 @@
 -- A row that reads its own process alone, after a segment that leaves that process.
-use Rattle.std.specs.Prelude.{Bool, IfSome, List, None, Option, Some, cond, false, option_copied, refl, true, ◌==◌, ◌∷◌}
-use Rattle.std.specs.Prelude.{[], ℕ, ◌≡◌}
-use Rattle.cap_summary.proofs.{Bools.and_left, Bools.and_right, Bor, ap, eq-eqb, eqb-true, sym, ◌∙◌}
-use Rattle.cap_summary.specs.{Names.mode_within, declared.base.DefaultCells.DefaultCells, declared.effect.Effect.Effect}
-use Rattle.cap_summary.specs.{Composing.IsComposedSo, Sorted.found, declared.effect.Row.Row, declared.value.Value.Value}
-use Rattle.cap_summary.specs.{Names.IsListedWithin, Names.others_within, Values.reads_within, declared.key.Key.Key}
-use Rattle.cap_summary.specs.{Names.ListWithin, Names.RowWithin, Names.has_cell, Names.has_key, list_all, option_map_or}
-use Rattle.cap_summary.specs.{Cell, Closed, Keys.Cells, Names.only, Values.read, applied}
+use Rattle.std.specs.Prelude.{Bool, IfSome, List, None, Option, [], false, option_copied, refl, true, ℕ, ◌==◌, ◌∷◌, ◌≡◌}
+use Rattle.cap_summary.specs.{Closed, Keys.Cells, Keys.read, Some, Sorted.found, applied, cond, list_all, option_map_or}
+use Rattle.cap_summary.specs.{Composing.IsComposedSo, Keys.reads_within, Names.has_cell, declared.effect.Effect.Effect}
+use Rattle.cap_summary.specs.declared.{base.DefaultCells.DefaultCells, effect.Row.Row, key.Key.Key, value.Value.Value}
+use Rattle.cap_summary.specs.Names.{IsListedWithin, ListWithin, RowWithin, has_key, mode_within, only, others_within}
 use Rattle.cap_summary.specs.Effects.{base_cell, cell_in, changed, is_from, others_cell, passed, row_cell}
+use Rattle.cap_summary.proofs.{Bools.and_left, Bools.and_right, Bor, ap, eq-eqb, eqb-true, sym, ◌∙◌}
+use Rattle.cap_summary.specs.{Cell}
 
 -- values that each read one process alone, listed for some descriptors
 pub list_only : (p : ℕ) (entries : List (ℕ × Value))
@@ -57,23 +56,17 @@ module _ (before after : Cells) (p : ℕ) (same : (k : Key) → before p k ≡ a
       (ap (λ c. cond (is_from row.base.closed_from f) Closed c) (same_others row.base.others f is.others))
 
 -- .. where another first segment gives the process the same row
-pub first_replaced : (was first : Effect) (p : ℕ) (left : Option Row) (right : Row) (new : Option Row)
-    → left ≡ found first.rows p → found was.rows p ≡ left → RowWithin (only p) right
-    → IsComposedSo was p (found was.rows p) (Some right) new → IsComposedSo first p left (Some right) new
-first_replaced was first p left right new is had own old = record {
+pub first_replaced : (was first : Effect) (p : ℕ) (right : Row) (new : Option Row)
+    → found was.rows p ≡ found first.rows p → RowWithin (only p) right → IsComposedSo was p (Some right) new
+    → IsComposedSo first p (Some right) new
+first_replaced was first p right new had own old = record {
   cells = λ cells k. old.cells cells k
-      ∙ own_row (changed was cells) (changed first cells) p (λ j. ap (λ row. cell_in cells row p j) (had ∙ is)) right own k;
+      ∙ own_row (changed was cells) (changed first cells) p (λ j. ap (λ row. cell_in cells row p j) had) right own k;
   leaves = rw had at old.leaves;
   names = λ names of read first_named here named. old.names names (only p)
       (λ q same. rw (eqb-true q p same, had) first_named) (rw had first_named)
       (record { pid = eq-eqb p p refl; row = own }) named;
 }
-
--- .. and where the second segment was replaced, and gives it the same row
-pub second_replaced : (was first : Effect) (p : ℕ) (left later new : Option Row) → left ≡ found first.rows p
-    → found was.rows p ≡ later → IsComposedSo first p (found first.rows p) (found was.rows p) new
-    → IsComposedSo first p left later new
-second_replaced was first p left later new is had old = rw (is, ← had) old
 
 -- what is looked up of a process
 pub copied : (o : Option (Bor Row)) (x : Option Row) → option_copied o ≡ x → IfSome o (λ row. x ≡ Some row.now)

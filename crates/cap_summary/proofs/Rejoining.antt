@@ -1,17 +1,15 @@
 -- What is known of an old whole, of a whole that has another part in place of one.
-use Rattle.std.specs.Prelude.{false, refl, true, ℕ, ◌||◌, ◌≡◌}
+use Rattle.std.specs.Prelude.{refl, true, ℕ, ◌||◌, ◌≡◌}
 use Rattle.cap_summary.proofs.{ap, arith, ◌∙◌}
 use Rattle.cap_summary.specs.{Effects.cell_in, Keys.cells_of, declared.effect.Effect.Effect, declared.known.Known.Known}
-use Rattle.cap_summary.specs.{Effects.changed, Keys.Cells, Left, Right, Side, Similarity, Sorted.found, part_at}
-use Rattle.cap_summary.specs.Composing.{AreAlike, IsComposedSo, IsJoined, IsJoinedEffect, KeepsEffect}
+use Rattle.cap_summary.specs.{Effects.changed, Keys.Cells, Similarity, Sorted.found, part_at}
+use Rattle.cap_summary.specs.Composing.{AreAlike, IsComposedSo, IsJoined, IsJoinedEffect}
 use Rattle.cap_summary.specs.declared.precondition.Precondition.{Precondition}
+use Rattle.cap_tree.specs.declared.similarity.Side.{Side}
 use Rattle.cap_summary.specs.Preconditions.{AllSaid, IsAskedByBoth, IsSamePrecondition, Saying, is_met}
 
 same_cells : (a b : Effect) → a.rows ≡ b.rows → (cells : Cells) → changed a cells ≡ changed b cells
 same_cells a b same cells = ap (λ rows. λ p k. cell_in cells (found rows p) p k) same
-
-pub keeps_none : (side : Side) (similarity : Similarity) → similarity.precondition ≡ false → KeepsEffect side similarity
-keeps_none side similarity none = grind (arith, none)
 
 -- the same effect in the first place, and in the second
 first_effect : (was first later old : Effect) → was.rows ≡ first.rows → IsJoinedEffect was later old
@@ -72,20 +70,21 @@ pub rejoined_effect : (side : Side) (first second was old : Known) (kept : Simil
     → IsJoined (part_at side was first) (part_at side second was) old
     → AreAlike kept was (part_at side first second) → kept.effect ≡ true
     → IsJoinedEffect first.effect.value second.effect.value old.effect.value
-rejoined_effect Left first second was old kept joined alike is = first_effect was.effect.value first.effect.value
+rejoined_effect Side.Left first second was old kept joined alike is = first_effect was.effect.value first.effect.value
     second.effect.value old.effect.value (alike.effect is) joined.effect
-rejoined_effect Right first second was old kept joined alike is = second_effect first.effect.value was.effect.value
+rejoined_effect Side.Right first second was old kept joined alike is = second_effect first.effect.value was.effect.value
     second.effect.value old.effect.value (alike.effect is) joined.effect
 
 -- and what it asks is
 pub rejoined_asks : (side : Side) (first second was old : Known) (kept : Similarity)
     → IsJoined (part_at side was first) (part_at side second was) old
-    → AreAlike kept was (part_at side first second) → KeepsEffect side kept → kept.precondition ≡ true
+    → AreAlike kept was (part_at side first second) → (side ≡ Side.Left → kept.precondition ≡ true → kept.effect ≡ true)
+    → kept.precondition ≡ true
     → IsAskedByBoth first.effect.value first.precondition.value second.precondition.value old.precondition.value
-rejoined_asks Left first second was old kept joined alike effect is = first_asks was.effect.value first.effect.value
+rejoined_asks Side.Left first second was old kept joined alike effect is = first_asks was.effect.value first.effect.value
     was.precondition.value first.precondition.value second.precondition.value old.precondition.value
-    (alike.effect (effect is)) (alike.precondition is) joined.precondition
-rejoined_asks Right first second was old kept joined alike effect is = second_asks first.effect.value
+    (alike.effect (effect refl is)) (alike.precondition is) joined.precondition
+rejoined_asks Side.Right first second was old kept joined alike effect is = second_asks first.effect.value
     first.precondition.value was.precondition.value second.precondition.value old.precondition.value
     (alike.precondition is) joined.precondition
 
@@ -93,7 +92,6 @@ rejoined_asks Right first second was old kept joined alike effect is = second_as
 pub old_effect : (side : Side) (first second was old : Known)
     → IsJoined (part_at side was first) (part_at side second was) old → (p : ℕ)
     → IsComposedSo (part_at side was.effect.value first.effect.value) p
-    (found (part_at side was.effect.value first.effect.value).rows p)
     (part_at side (found second.effect.value.rows p) (found was.effect.value.rows p)) (found old.effect.value.rows p)
-old_effect Left first second was old joined = joined.effect.rows
-old_effect Right first second was old joined = joined.effect.rows
+old_effect Side.Left first second was old joined = joined.effect.rows
+old_effect Side.Right first second was old joined = joined.effect.rows

@@ -1,12 +1,11 @@
 -- The cells of a process after two segments.
 use Rattle.std.specs.Prelude.{Bool, List, None, Option, Some, cond, false, is_none, not, refl, true, ℕ, ◌&&◌, ◌||◌, ◌≡◌}
+use Rattle.cap_summary.specs.{Cell, Composing.IsHandedSo, Effects.leaves, declared.effect.Row.Row, declared.key.Key.Key}
+use Rattle.cap_summary.specs.declared.{base.Base.Base, base.Passing.Passing, effect.Effect.Effect, value.Value.Value}
+use Rattle.cap_summary.specs.Effects.{base_cell, base_leaves, changed, is_from, is_own, passed, row_cell, row_leaves}
+use Rattle.cap_summary.specs.{Closed, Keys.Cells, Keys.read, Sorted.found, option_map_or}
 use Rattle.cap_summary.proofs.{and_from, ap, arith, not-true, ◌∙◌}
-use Rattle.cap_summary.specs.{declared.base.Passing.Passing, declared.effect.Effect.Effect, declared.value.Value.Value}
-use Rattle.cap_summary.specs.{Composing.IsHandedSo, declared.base.Base.Base, declared.effect.Row.Row, option_map_or}
-use Rattle.cap_summary.specs.{Cell, Closed, Keys.Cells, Sorted.found, Values.read, declared.key.Key.Key}
-use Rattle.cap_summary.specs.Effects.{base_cell, base_leaves, changed, is_from, is_own, leaves, row_cell, row_leaves}
-use Rattle.cap_summary.specs.Effects.{passed}
-use Rattle.std.proofs.lemmas.Bool.{and_parts}
+use Rattle.std.proofs.lemmas.{Bool.and_parts}
 
 module _ (cells after : Cells) (p : ℕ) (passing : Passing) (base : Base) (rest : Cell) (f : ℕ)
     (closed : is_from base.closed_from f ≡ true → rest ≡ Closed) where

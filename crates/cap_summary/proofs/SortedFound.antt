@@ -1,10 +1,9 @@
 -- What a look-up finds in a list whose keys rise.
-use Rattle.cap_summary.specs.{IsNonDecreasingBy, nat_cmp, AllZip}
-use Rattle.cap_summary.specs.Sorted.{IsAt, IsGap, found, RisesFrom, Rises, KeysRise}
-use Rattle.cap_summary.proofs.{sym, ap, arith, ranked, nat_tests}
-use Rattle.std.specs.{List.Sorted.IsSearchInRange, List.Sorted.IsBinarySearchResult, Ordering.ordering_index}
-use Rattle.std.specs.Prelude.{Result, zero, List, length, get_or, None, Some, IfOk, IfErr, refl}
-use Rattle.std.specs.Prelude.{◌≢◌, Ok, Err, ◌≡◌, ◌+◌, ◌<◌, ◌≤◌, ◌∷◌, ℕ, suc, []}
+use Rattle.std.specs.Prelude.{Err, IfErr, List, None, Ok, Some, [], get_or, refl, zero, ℕ, ◌+◌, ◌<◌, ◌∷◌, ◌≡◌, ◌≢◌, ◌≤◌}
+use Rattle.cap_summary.specs.{AllZip, IfOk, IsNonDecreasingBy, Result, Sorted.IsGap, Sorted.found, length, nat_cmp, suc}
+use Rattle.std.specs.{List.Sorted.IsBinarySearchResult, List.Sorted.IsSearchInRange, Ordering.ordering_index}
+use Rattle.cap_summary.proofs.{ap, arith, nat_tests, ranked, sym}
+use Rattle.cap_summary.specs.Sorted.{IsAt, KeysRise, Rises, RisesFrom}
 
 -- no key is below the bound
 pub rises_at : {V : Type 0} (b : ℕ) (l : List (ℕ × V)) → RisesFrom b l → (i : ℕ) (d : ℕ × V) → i < length l

@@ -1,9 +1,8 @@
 -- A value that is put at a key of a list whose keys rise.
-use Rattle.std.specs.Prelude.{set, insert, remove, false}
-use Rattle.std.specs.Prelude.{◌≡◌, ◌+◌, ◌<◌, ◌≤◌, ◌∷◌, if◌then◌else◌, ℕ, zero, suc, eqb, List, [], Some}
-use Rattle.cap_summary.specs.Sorted.{IsAt, IsGap, found, RisesFrom}
-use Rattle.cap_summary.proofs.{arith, nat_tests, SortedFound.rises_at, SortedFound.is_at_tail, SortedFound.found_at}
-use Rattle.cap_summary.proofs.{SortedMerging.RisesFrom-lower}
+use Rattle.std.specs.Prelude.{[], if◌then◌else◌, insert, remove, set, zero, ◌+◌, ◌<◌, ◌∷◌, ◌≡◌, ◌≤◌}
+use Rattle.cap_summary.specs.{List, Some, Sorted.IsAt, Sorted.IsGap, Sorted.RisesFrom, Sorted.found, eqb, false, suc, ℕ}
+use Rattle.cap_summary.proofs.{SortedMerging.RisesFrom-lower, arith, nat_tests}
+use Rattle.cap_summary.proofs.SortedFound.{found_at, is_at_tail, rises_at}
 
 gap_tail : {V : Type 0} (x : ℕ × V) (l : List (ℕ × V)) (key at : ℕ) → IsGap (x ∷ l) key (suc at) → IsGap l key at
 gap_tail x l key at gap = record {

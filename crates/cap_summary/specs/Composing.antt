@@ -1,15 +1,13 @@
--- What is known of two segments together. What their effect names is named by the second segment, or by the rows of the
--- first that the second one reads.
-use Rattle.cap_summary.specs.{Preconditions.IsSamePrecondition, declared.composed.Replaced.Replaced, Names.IsRowWithin}
-use Rattle.cap_summary.specs.{Preconditions.IsAskedByBoth, declared.base.Passing.Passing, declared.effect.Effect.Effect}
-use Rattle.cap_summary.specs.{part_at, declared.effect.Row.Row, declared.known.Known.Known, declared.value.Value.Value}
-use Rattle.cap_summary.specs.{Cell, option_map_or, Keys.Cells, declared.key.Key.Key, Names.IsListedWithin, Names.ReadWithin}
-use Rattle.cap_summary.specs.{Step, Similarity, Side, Left, Right, Sorted.found, Values.read, Names.Names}
-use Rattle.cap_summary.specs.Effects.{is_from, passed, cell_in, changed, leaves_in}
-use Rattle.std.specs.Prelude.{◌≡◌, ◌<◌, ◌||◌, ◌&&◌, ℕ, true, List, length, Option, IfSome, is_none, if◌then◌else◌}
+-- What is known of two segments together. Their effect names what the second one names, and what rows that it reads do.
+use Rattle.std.specs.Prelude.{IfSome, Option, if◌then◌else◌, is_none, length, true, ℕ, ◌&&◌, ◌<◌, ◌||◌, ◌≡◌}
+use Rattle.cap_summary.specs.{Preconditions.IsAskedByBoth, Preconditions.IsSamePrecondition, declared.known.Known.Known}
+use Rattle.cap_summary.specs.{Cell, Keys.Cells, Keys.read, List, Similarity, Sorted.found, Step, option_map_or, part_at}
+use Rattle.cap_summary.specs.declared.{base.Passing.Passing, composed.Replaced.Replaced, key.Key.Key, value.Value.Value}
+use Rattle.cap_summary.specs.Effects.{cell_in, changed, is_from, leaves, leaves_in, passed}
+use Rattle.cap_summary.specs.Names.{IsListedWithin, IsRowWithin, Names, ReadWithin}
+use Rattle.cap_summary.specs.declared.effect.{Effect.Effect, Row.Row}
 
--- what is listed for a descriptor: what the second segment lists, by the cells before the first, or else what the first
--- one lists, handed on; and what that names
+-- what is listed for a descriptor: what the second segment lists, by the cells before the first, or what the first hands on
 pub record IsHandedSo (first : Effect) (passing : Passing) (closed_from : Option ℕ) (f : ℕ)
     (listed handed new : Option Value) : Type 0 where
   pub cells : (cells : Cells) (rest : Cell) → option_map_or (read cells) new rest
@@ -21,25 +19,20 @@ pub record IsHandedSo (first : Effect) (passing : Passing) (closed_from : Option
       → IfSome new (IsListedWithin names f)
 
 -- the row of a process: its cells, what it leaves, and what it names
-pub record IsComposedSo (first : Effect) (p : ℕ) (was later new : Option Row) : Type 0 where
+pub record IsComposedSo (first : Effect) (p : ℕ) (later new : Option Row) : Type 0 where
   pub cells : (cells : Cells) (k : Key) → cell_in cells new p k ≡ cell_in (changed first cells) later p k
-  pub leaves : (k : Key) → leaves_in new k ≡ true → (leaves_in was k ≡ true) × (leaves_in later k ≡ true)
-  pub names : (names of : Names) → ReadWithin names of first → IfSome was (IsRowWithin names p)
+  pub leaves : (k : Key) → leaves_in new k ≡ true → (leaves first p k ≡ true) × (leaves_in later k ≡ true)
+  pub names : (names of : Names) → ReadWithin names of first → IfSome (found first.rows p) (IsRowWithin names p)
       → IfSome later (IsRowWithin of p) → IfSome later (IsRowWithin names p) → IfSome new (IsRowWithin names p)
 
 -- the effect of a segment and then a later one
 pub record IsJoinedEffect (first later both : Effect) : Type 0 where
-  pub rows : (p : ℕ) → IsComposedSo first p (found first.rows p) (found later.rows p) (found both.rows p)
+  pub rows : (p : ℕ) → IsComposedSo first p (found later.rows p) (found both.rows p)
 
 -- the row of a process in an old whole, when one part was replaced; the later segment gives the process this row
 abbrev pub IsOldAt : Replaced → Effect → ℕ → Option Row → Type 0
-IsOldAt old first p later =
-    IsComposedSo (part_at old.side old.was.now first) p (found (part_at old.side old.was.now first).rows p)
+IsOldAt old first p later = IsComposedSo (part_at old.side old.was.now first) p
     (part_at old.side later (found old.was.now.rows p)) (found old.whole.now.rows p)
-
--- two segments have these effects, one of them in the place of the part that was replaced
-abbrev pub IsReplaced : Effect → Effect → Option Replaced → Type 0
-IsReplaced first later old = IfSome old (λ old. (p : ℕ) → IsOldAt old first p (found later.rows p))
 
 -- what is known of a segment, of a later one, and of both
 pub record IsJoined (first later both : Known) : Type 0 where
@@ -50,13 +43,7 @@ pub record IsJoined (first later both : Known) : Type 0 where
 -- what the similarity says is so
 pub record AreAlike (similarity : Similarity) (old new : Known) : Type 0 where
   pub effect : similarity.effect ≡ true → old.effect.value.rows ≡ new.effect.value.rows
-  pub precondition : similarity.precondition ≡ true
-      → IsSamePrecondition old.precondition.value new.precondition.value
-
--- a new first part asks for the old whole's precondition only with the effect that it had
-abbrev pub KeepsEffect : Side → Similarity → Type 0
-KeepsEffect Left similarity = similarity.precondition ≡ true → similarity.effect ≡ true
-KeepsEffect Right similarity = Unit {0}
+  pub precondition : similarity.precondition ≡ true → IsSamePrecondition old.precondition.value new.precondition.value
 
 -- ---- a node of a summary, as a contract sees it: its steps, and what is known of them where that is kept
 pub record NodeView : Type 0 where

@@ -1,12 +1,10 @@
 -- What becomes of each cell over a segment, whatever the cells before it: the transfer function of the segment.
-use Rattle.std.specs.Prelude.{Bool, List, None, [], if◌then◌else◌, not, ℕ, ◌&&◌, ◌==◌, ◌||◌, ◌≡◌, ◌⊎◌}
-use Rattle.cap_summary.specs.{Keys.mode_cell, declared.base.DefaultCells.DefaultCells, declared.base.Passing.Passing}
-use Rattle.cap_summary.specs.{declared.before.Before.Before, declared.effect.Effect.Effect, declared.value.Value.Value}
-use Rattle.cap_summary.specs.{Keys.cells_of, declared.base.Base.Base, declared.effect.Row.Row, declared.key.Key.Key}
-use Rattle.cap_summary.specs.{Keys.state_of, Sorted.found, State, Values.read, effect_touch, effect_turn, option_map_or}
-use Rattle.cap_summary.specs.{Closed, Keys.Cells, LineEffect, Unknown, applied, follows, is_child, is_none, start_state}
-use Rattle.cap_summary.specs.{Cell, Option, Some, Turn, exec, false, kept, nat_le, started, stays, touched, true, turns}
-use Rattle.cap_summary.specs.declared.before.Before.TheVariants.{After', At}
+use Rattle.std.specs.Prelude.{List, None, Option, Some, false, if◌then◌else◌, is_none, not, true, ◌&&◌, ◌==◌, ◌||◌, ◌≡◌}
+use Rattle.cap_summary.specs.{Bool, Cell, State, Unknown, [], applied, follows, nat_le, started, stays, touched, turns}
+use Rattle.cap_summary.specs.{Closed, Keys.cells_of, Keys.mode_cell, Keys.state_of, Turn, exec, kept, option_map_or, ℕ}
+use Rattle.cap_summary.specs.{Keys.Cells, Keys.read, LineEffect, Sorted.found, effect_touch, effect_turn, start_state}
+use Rattle.cap_summary.specs.declared.{base.Passing.Passing, before.Before.Before, effect.Effect.Effect, effect.Row.Row}
+use Rattle.cap_summary.specs.declared.{base.Base.Base, base.DefaultCells.DefaultCells, key.Key.Key, value.Value.Value}
 
 -- how a whole table of cells is handed on: as it is (fork(2)), or by an exec (execve(2))
 abbrev pub passed : Passing → Cell → Cell
@@ -52,8 +50,8 @@ changed effect cells p k = cell_in cells (found effect.rows p) p k
 
 -- the state after a start and effects
 abbrev pub state_before : Before → State
-state_before (At start) = start_state start.now
-state_before (After' p before effect) = state_of (changed effect.now (cells_of (state_before before)))
+state_before (Before.At start) = start_state start.now
+state_before (Before.After' p before effect) = state_of (changed effect.now (cells_of (state_before before)))
 
 -- ---- which cells and modes no line of a segment touches, as far as is known: those that have no row, or a row of
 -- their own process that neither lists nor closes them; a cell that came back by a fork is touched
@@ -81,14 +79,7 @@ abbrev pub LineLeaves : LineEffect → ℕ → ℕ → Key → Type 0
 LineLeaves line me p Key.Mode = effect_turn line me p ≡ stays
 LineLeaves line me p (Key.Fd f) = effect_touch line me p f ≡ kept
 
--- what is left after a line was left before it, and the line leaves it
-abbrev pub LeavesThenLine : Effect → LineEffect → ℕ → Effect → Type 0
-LeavesThenLine first line me new = (p : ℕ) (k : Key) → leaves new p k ≡ true
-    → (leaves first p k ≡ true) × LineLeaves line me p k
-
--- ---- what one line does to each cell and to each mode, by key; me is the process of the line
-
--- the cell of a mode after a turn, of what the cells were before
+-- ---- one line, where me is its process: the cell of a mode after a turn, of what the cells were before
 abbrev pub turned_cell : Turn → Cells → ℕ → Cell
 turned_cell stays cells p = cells p Key.Mode
 turned_cell (turns m) cells p = mode_cell m
@@ -98,11 +89,6 @@ turned_cell (follows q) cells p = cells q Key.Mode
 abbrev pub line_after : LineEffect → ℕ → Cells → Cells
 line_after effect me cells p Key.Mode = turned_cell (effect_turn effect me p) cells p
 line_after effect me cells p (Key.Fd f) = touched (effect_touch effect me p f) (λ q g. cells q (Key.Fd g)) p f
-
--- the cells after a segment and then a line with this effect
-abbrev pub IsThenLine : Effect → LineEffect → ℕ → Effect → Type 0
-IsThenLine first line me new = (cells : Cells) (p : ℕ) (k : Key)
-    → changed new cells p k ≡ line_after line me (changed first cells) p k
 
 -- a process whose row a line makes anew: its own, or the child that it makes, or both
 abbrev pub is_touched : LineEffect → ℕ → ℕ → Bool
@@ -121,17 +107,6 @@ sets_cells _ = false
 abbrev pub is_cell : ℕ → ℕ → ℕ → Key → Bool
 is_cell q f p Key.Mode = false
 is_cell q f p (Key.Fd g) = p == q && g == f
-
--- each of these has the cells that this row gives me, the line's process, and each other one those that it had
-abbrev pub IsPut : LineEffect → ℕ → Row → List (ℕ × Row) → List (ℕ × Row) → Type 0
-IsPut line me row old new = (cells : Cells) (p : ℕ) (k : Key) → cell_in cells (found new p) p k
-    ≡ (if is_touched line me p then row_cell cells me row k else cell_in cells (found old p) p k)
-
--- a cell is left only of a process that the line doesn't touch, or by this row of its own process; of a child nothing is
-abbrev pub LeavesPut : LineEffect → ℕ → Row → List (ℕ × Row) → List (ℕ × Row) → Type 0
-LeavesPut line me row old new = (p : ℕ) (k : Key) → leaves_in (found new p) k ≡ true
-    → ((is_touched line me p ≡ false) × (leaves_in (found old p) k ≡ true))
-    ⊎ ((p ≡ me) × (is_child line me ≡ false) × (row_leaves row k ≡ true))
 
 -- the cells that a process holds once it has started with these descriptors
 abbrev pub IsStarted : List ℕ → List (ℕ × Value) → Type 0

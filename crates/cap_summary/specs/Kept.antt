@@ -1,23 +1,19 @@
--- What is kept of steps, and where so much may be known of them that it isn't kept: where they name many processes and
--- descriptors, or have many calls that were refused for lack of a right.
-use Rattle.std.specs.Prelude.{Bool, List, length, min, ℕ, ◌*◌, ◌+◌, ◌<◌, ◌==◌, ◌≤◌, ◌⊎◌}
-use Rattle.cap_summary.specs.{LineAsks.refused, RowSizes.AllRise, RowSizes.rows_size, Step, declared.known.Known.Known}
-use Rattle.cap_summary.specs.{Knows.Knows, Names.AreAmong, Names.Names, Names.names_in, list_any}
+-- What is kept of steps, where it is little or they don't name much and few were refused; and what holds of each node.
+use Rattle.std.specs.Prelude.{IfSome, List, Option, is_some, length, ◌*◌, ◌++◌, ◌+◌, ◌<◌, ◌==◌, ◌^◌, ◌≡◌, ◌≤◌, ◌⊎◌}
+use Rattle.cap_summary.specs.{Composing.NodeView, Keys.rows_size, LineAsks.refused, Names.AreAmong, Names.names_in, min}
+use Rattle.cap_summary.specs.{Bool, IfNone, Keys.AllRise, Knows.Knows, Names.Names, Step, list_any, true, values, ℕ}
+use Rattle.cap_summary.specs.declared.{known.Known.Known, node.Content.Content}
 use Rattle.cap_summary.specs.Preconditions.{IsSettled, size}
 
--- the most rows and cells that are kept of so many steps
-abbrev pub limit : ℕ → ℕ
-limit n = min 8192 (1024 + n)
-
--- what is known of so many steps is within the limit, and with its asks and refusals it is at most 40,000
+-- what is known of so many steps is within the limits: that of rows and cells, and that of all with asks and refusals
 pub record IsWithin (known : Known) (n : ℕ) : Type 0 where
-  pub cells : rows_size known.effect.value.rows ≤ limit n
+  pub cells : rows_size known.effect.value.rows ≤ min 8192 (1024 + n)
   pub all : size known ≤ 40000
 
 -- it isn't
 pub record IsLarge (known : Known) (n : ℕ) : Type 0 where
   pub rising : AllRise known.effect.value.rows
-  pub large : (limit n < rows_size known.effect.value.rows) ⊎ (40000 < size known)
+  pub large : (min 8192 (1024 + n) < rows_size known.effect.value.rows) ⊎ (40000 < size known)
 
 -- it has more than 1,024 rows and cells
 pub record ListsMany (known : Known) : Type 0 where
@@ -47,3 +43,30 @@ room pids fds = length pids * (length fds + 1)
 abbrev pub NameOrRefuseMany : List Step → Type 0
 NameOrRefuseMany t =
     ((pids fds : List ℕ) → AreAmong (names_in t) (these pids fds) → 1024 < room pids fds) ⊎ (30000 < refused t)
+
+-- the steps of a node, from the first
+abbrev pub content_steps : Content → List Step
+content_steps (Content.Run run) = values run.items
+content_steps (Content.Both a b) = a.value.steps ++ b.value.steps
+
+-- a run is short, and a node of two parts has steps in both
+abbrev pub HasParts : Content → Type 0
+HasParts (Content.Run run) = length run.items ≤ 48
+HasParts (Content.Both a b) = (0 < length a.value.steps) × (0 < length b.value.steps)
+
+-- where what is known of a node is kept, it is kept of both parts
+abbrev pub AreKept : NodeView → NodeView → Type 0
+AreKept a b = (is_some a.known ≡ true) × (is_some b.known ≡ true)
+
+abbrev pub KeepsParts : Option Known → Content → Type 0
+KeepsParts kept (Content.Run run) = Unit {0}
+KeepsParts kept (Content.Both a b) = IfSome kept (λ known. AreKept a.value b.value)
+
+-- what always holds of a node; where nothing is kept of it, it names or refuses many
+pub record IsGood (size : ℕ) (kept : Option Known) (content : Content) : Type 0 where
+  pub len : size ≡ length (content_steps content)
+  pub parts : HasParts content
+  pub below : KeepsParts kept content
+  pub few : size ≤ 2 ^ 30
+  pub known : IfSome kept (λ known. IsKept known (content_steps content))
+  pub many : IfNone kept (NameOrRefuseMany (content_steps content))

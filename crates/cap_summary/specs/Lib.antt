@@ -1,6 +1,5 @@
 pub mod Prelude
 pub mod Keys
-pub mod Values
 pub mod Tests
 pub mod Asks
 pub mod Sorted
@@ -10,10 +9,7 @@ pub mod Names
 pub mod Composing
 pub mod Preconditions
 pub mod Knows
-pub mod RowSizes
 pub mod Kept
-pub mod Content
-pub mod Falls
 pub mod Stands
 pub mod Positions
 pub mod LastSteps

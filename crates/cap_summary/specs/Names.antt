@@ -1,19 +1,16 @@
 -- Which processes and which descriptors lines and an effect name.
-use Rattle.std.specs.Prelude.{All, Bool, IfSome, List, Option, false, true, ℕ, ◌&&◌, ◌==◌, ◌||◌, ◌≡◌}
-use Rattle.cap_summary.specs.{Check, declared.effect.Effect.Effect, declared.effect.Row.Row, declared.value.Value.Value}
-use Rattle.cap_summary.specs.{Item, Requirement, Sorted.found, Values.reads_within, declared.key.Key.Key, option_map_or}
-use Rattle.cap_summary.specs.{Answer, ChildAndFd, LineEffect, ResultKind, Same, args_name, kind_of, list_any, names_pid}
-use Rattle.cap_summary.specs.{Checks, Entry, Fd, FdPair, Step, fds_of, listed}
-use Rattle.cap_summary.specs.declared.base.DefaultCells.{DefaultCells}
+use Rattle.std.specs.Prelude.{Bool, ◌&&◌, ◌==◌, ◌||◌, ◌≡◌}
+use Rattle.cap_summary.specs.{Keys.reads_within, LineEffect, Sorted.found, declared.effect.Effect.Effect, option_map_or}
+use Rattle.cap_summary.specs.{Check, IfSome, Requirement, ResultKind, args_name, is_child, kind_of, list_any, names_pid}
+use Rattle.cap_summary.specs.declared.{base.DefaultCells.DefaultCells, effect.Row.Row, key.Key.Key, value.Value.Value}
+use Rattle.cap_summary.specs.{All, Answer, Checks, Entry, Item, List, Option, Step, false, fds_of, listed, true, ℕ}
 
--- ---- what the lines of a trace name
-
--- a descriptor of an answer, by the kind of answer that the call has: the count that read(2) answers is none
+-- ---- lines: a descriptor of an answer, by the kind of answer that the call has; the count that read(2) answers is none
 abbrev pub answers_fd : ℕ → ResultKind → Answer → Bool
-answers_fd f Fd (Answer.Made n) = f == n
-answers_fd f (Same g) (Answer.Made n) = f == n
-answers_fd f FdPair (Answer.Pair n m) = f == n || f == m
-answers_fd f ChildAndFd (Answer.Pair n m) = f == m
+answers_fd f ResultKind.Fd (Answer.Made n) = f == n
+answers_fd f (ResultKind.Same g) (Answer.Made n) = f == n
+answers_fd f ResultKind.FdPair (Answer.Pair n m) = f == n || f == m
+answers_fd f ResultKind.ChildAndFd (Answer.Pair n m) = f == m
 answers_fd f kind answer = false
 
 abbrev pub item_answers_fd : ℕ → Item → Bool
@@ -29,8 +26,7 @@ pub record Names : Type 0 where
   pub pids : ℕ → Bool
   pub fds : ℕ → Bool
 
--- those that the lines of steps name: each line's process and the child that it made, and the descriptors of its
--- arguments and its answer
+-- those that the lines of steps name: each one's process and the child that it made, and descriptors that stand in it
 abbrev pub names_in : List Step → Names
 names_in t = record {
   pids = λ p. list_any (λ (step : Step). names_pid p step.line) t;
@@ -54,9 +50,7 @@ has_key names (Key.Fd f) = names.fds f
 abbrev pub has_cell : Names → ℕ → Key → Bool
 has_cell names p k = names.pids p && has_key names k
 
--- ---- effects
-
--- a value that is listed for a descriptor
+-- ---- effects: a value that is listed for a descriptor
 pub record IsListedWithin (names : Names) (f : ℕ) (v : Value) : Type 0 where
   pub key : names.fds f ≡ true
   pub source : reads_within (has_cell names) v ≡ true
@@ -94,16 +88,10 @@ EffectWithin names effect = RowsWithin names effect.rows
 abbrev pub ReadWithin : Names → Names → Effect → Type 0
 ReadWithin names of effect = (q : ℕ) → of.pids q ≡ true → IfSome (found effect.rows q) (IsRowWithin names q)
 
--- the child that a line makes
-abbrev pub ChildWithin : Names → LineEffect → Type 0
-ChildWithin names (LineEffect.Fork child) = names.pids child ≡ true
-ChildWithin names (LineEffect.ForkAs child f) = names.pids child ≡ true
-ChildWithin names effect = Unit {0}
-
 -- the process of a line, its child, and the descriptors that it has one by one
 pub record LineWithin (names : Names) (me : ℕ) (effect : LineEffect) : Type 0 where
   pub own : names.pids me ≡ true
-  pub child : ChildWithin names effect
+  pub child : (p : ℕ) → is_child effect p ≡ true → names.pids p ≡ true
   pub fds : All (λ f. names.fds f ≡ true) (fds_of effect)
 
 -- the descriptors of the checks of a line

@@ -1,7 +1,7 @@
 -- Under which cells before a segment something is found in it.
 use Rattle.std.specs.Prelude.{All, Bool, List, None, Option, Some, [], false, length, not, true, ℕ, ◌+◌, ◌||◌, ◌≡◌, ◌≤◌}
 use Rattle.cap_summary.specs.{declared.effect.Effect.Effect, declared.precondition.Precondition.Precondition, list_any}
-use Rattle.cap_summary.specs.{Names.EffectWithin, RowSizes.rows_size, declared.ask.Ask.Ask, declared.known.Known.Known}
+use Rattle.cap_summary.specs.{Names.EffectWithin, Keys.rows_size, declared.ask.Ask.Ask, declared.known.Known.Known}
 use Rattle.cap_summary.specs.{Asks.AreWithin, Asks.AskWithin, Asks.any_holds, Effects.changed, Global, Names.has_cell}
 use Rattle.cap_summary.specs.{Asks.IsOpen, Asks.Rises, Asks.asks_of, Keys.Cells, Keys.cells_of, Names.Names, State, Vec}
 use Rattle.cap_summary.specs.declared.up_to_three.UpToThree.{UpToThree}

@@ -1,34 +1,28 @@
 -- The names of std and of the crates below that several files take, passed on from one place. Declares nothing.
-pub use Rattle.std.specs.{List.Sorted.IsNonDecreasingBy, declared.alloc.Global.Global, declared.cmp.Ordering.Ordering}
-pub use Rattle.std.specs.{Cmp.Lexicographic.pointwise, Option.option_map_or, declared.rc.Rc.Rc, declared.vec.Vec.Vec}
-pub use Rattle.std.specs.{Int.bit_at, List.AllZip, List.list_all, List.list_any, Option.option_or, Ordering.nat_cmp}
-pub use Rattle.std.specs.Prelude.{IsPermutation, is_none, option_copied, slice_index_or}
-pub use Rattle.std.specs.Prelude.{IfNone, IfSome, Option, Result, is_some, option_map, reverse, slice_range, unwrap_or}
-pub use Rattle.std.specs.Prelude.{Bool, IfOk, List, None, OnOk, Some, cond, drop, false, filter, get_or, length, nat_le}
-pub use Rattle.std.specs.Prelude.{All, [], eqb, map, min, not, refl, set, suc, take, true, zero, ℕ}
+pub use Rattle.std.specs.Prelude.{All, IsPermutation, option_copied, option_map, slice_index_or, slice_range, unwrap_or}
+pub use Rattle.std.specs.Prelude.{Bool, IfOk, List, None, OnOk, Some, cond, drop, eqb, false, map, refl, take, true, ℕ}
+pub use Rattle.std.specs.Prelude.{IfSome, Option, Result, [], filter, get_or, is_none, is_some, length, nat_le, reverse}
+pub use Rattle.std.specs.Prelude.{min, not, set, suc}
 pub use Rattle.std.specs.declared.cmp.Ordering.TheVariants.{Equal, Greater, Less}
+pub use Rattle.std.specs.declared.{alloc.Global.Global, cmp.Ordering.Ordering, rc.Rc.Rc, vec.Vec.Vec}
+pub use Rattle.std.specs.{Cmp.Lexicographic.pointwise, List.AllZip, List.Sorted.IsNonDecreasingBy, Option.option_map_or}
+pub use Rattle.std.specs.{Int.bit_at, List.list_all, List.list_any, Option.option_or, Ordering.nat_cmp, Prelude.IfNone}
 pub use Rattle.cap_rights.specs.Rights.{all, has_all, join, none}
-pub use Rattle.cap_trace.specs.declared.calls.ResultKind.TheVariants.{ChildAndFd, Count, Fd, FdPair, Same}
-pub use Rattle.cap_trace.specs.{declared.calls.ResultKind.ResultKind, declared.line.Answer.Answer, Entry.Entry}
-pub use Rattle.cap_trace.specs.{Entry.kind_of, Item.Item, Views.fds_spelled}
-pub use Rattle.cap_machine.specs.declared.cell.{Cell.Cell, Cell.TheVariants.Closed, Cell.TheVariants.Held}
-pub use Rattle.cap_machine.specs.declared.cell.{Cell.TheVariants.Unknown, HeldOp.HeldOp, Mode.Mode}
-pub use Rattle.cap_machine.specs.declared.cell.{Mode.TheVariants.Inside, Mode.TheVariants.Outside, OnExec.OnExec}
-pub use Rattle.cap_machine.specs.declared.cell.{OnExec.TheVariants.Clear, OnExec.TheVariants.Set}
-pub use Rattle.cap_machine.specs.declared.cell.{OnExec.TheVariants.Unsure, Op.Op}
-pub use Rattle.cap_machine.specs.declared.rule.{Check.Check, Checks.Checks, Effect.Effect as LineEffect}
-pub use Rattle.cap_machine.specs.declared.rule.{LimitWord.LimitWord, Reply.TheVariants.NotCapable}
-pub use Rattle.cap_machine.specs.declared.rule.{Reply.TheVariants.Success, Requirement.Requirement}
-pub use Rattle.cap_machine.specs.declared.{step.Step.Step, verdict.Finding.Finding, verdict.Found.Found}
-pub use Rattle.cap_machine.specs.declared.{walks.CellWalk.CellWalk, walks.ModeWalk.ModeWalk}
-pub use Rattle.cap_machine.specs.{Check.check, Check.findings_of, Check.found_at, Check.said, Effect.effect_touch}
-pub use Rattle.cap_machine.specs.{Effect.effect_turn, Explain.Explained, Explain.explained, Explain.explanation}
-pub use Rattle.cap_machine.specs.{History.ended, History.touched, Judge.all_excused, Judge.fault, Judge.faults}
-pub use Rattle.cap_machine.specs.{Judge.has_check, Judge.is_outside, Judge.listed, Laws.later, Named.args_name}
-pub use Rattle.cap_machine.specs.{Named.fds_of, Named.names_pid, Op.applied, Op.exec, Op.same, Rule.requirement}
-pub use Rattle.cap_machine.specs.{State.State, State.start_state, Touch.follows, Touch.given, Touch.kept, Touch.started}
-pub use Rattle.cap_machine.specs.{Touch.stays, Touch.taken, Touch.Touch, Touch.touch, Touch.Turn, Touch.turn}
-pub use Rattle.cap_machine.specs.{Touch.turns, Code.Walks.LeavesCell, Code.Walks.LeavesMode, Code.Wanted.is_child}
-pub use Rattle.cap_tree.specs.declared.similarity.{Side.Side, Side.TheVariants.Left, Side.TheVariants.Right}
-pub use Rattle.cap_tree.specs.declared.similarity.{Similarity.Similarity}
-pub use Rattle.cap_tree.specs.{Run.values, Sides.part_at}
+pub use Rattle.cap_trace.specs.declared.calls.ResultKind.{ResultKind}
+pub use Rattle.cap_trace.specs.{Entry.Entry, Entry.kind_of, Item.Item, Views.fds_spelled, declared.line.Answer.Answer}
+pub use Rattle.cap_machine.specs.Check.{check, found_at, said}
+pub use Rattle.cap_machine.specs.Code.{Walks.LeavesCell, Walks.LeavesMode, Wanted.is_child}
+pub use Rattle.cap_machine.specs.Explain.{Explained, explained}
+pub use Rattle.cap_machine.specs.Judge.{all_excused, fault, faults, has_check, is_outside, listed}
+pub use Rattle.cap_machine.specs.Touch.{Touch, Turn, follows, given, kept, started, stays, taken, touch, turn, turns}
+pub use Rattle.cap_machine.specs.declared.cell.Cell.{Cell, TheVariants.Closed, TheVariants.Held, TheVariants.Unknown}
+pub use Rattle.cap_machine.specs.declared.cell.OnExec.{OnExec, TheVariants.Clear, TheVariants.Set, TheVariants.Unsure}
+pub use Rattle.cap_machine.specs.declared.cell.{HeldOp.HeldOp, Mode.TheVariants.Inside, Mode.TheVariants.Outside, Op.Op}
+pub use Rattle.cap_machine.specs.declared.rule.{Check.Check, Effect.Effect as LineEffect, Reply.TheVariants.NotCapable}
+pub use Rattle.cap_machine.specs.declared.rule.{Checks.Checks, LimitWord.LimitWord, Requirement.Requirement}
+pub use Rattle.cap_machine.specs.declared.walks.{CellWalk.CellWalk, ModeWalk.ModeWalk}
+pub use Rattle.cap_machine.specs.declared.{cell.Mode.Mode, step.Step.Step, verdict.Finding.Finding, verdict.Found.Found}
+pub use Rattle.cap_machine.specs.{Check.findings_of, History.ended, History.touched, Named.args_name, Rule.requirement}
+pub use Rattle.cap_machine.specs.{Effect.effect_touch, Effect.effect_turn, Explain.explanation, State.start_state}
+pub use Rattle.cap_machine.specs.{Laws.later, Named.fds_of, Named.names_pid, Op.applied, Op.exec, Op.same, State.State}
+pub use Rattle.cap_tree.specs.{Run.values, Sides.part_at, declared.similarity.Similarity.Similarity}

@@ -1,6 +1,6 @@
 -- A table as the list of its entries, each a key and a value.
-use Rattle.std.specs.Prelude.{◌≡◌, ◌+◌, ◌<◌, ◌≤◌, ◌==◌, ◌∷◌, if◌then◌else◌, ℕ, List, [], length, slice_index_or, Option}
-use Rattle.std.specs.Prelude.{Some, None}
+use Rattle.std.specs.Prelude.{List, None, Option, Some, [], if◌then◌else◌, length, ℕ, ◌+◌, ◌<◌, ◌==◌, ◌∷◌, ◌≡◌, ◌≤◌}
+use Rattle.std.specs.Prelude.{slice_index_or}
 
 -- the value of the first entry that has the key
 abbrev pub found : {V : Type 0} → List (ℕ × V) → ℕ → Option V
@@ -16,7 +16,7 @@ RisesFrom bound ((k, v) ∷ rest) = (bound ≤ k) × RisesFrom (k + 1) rest
 abbrev pub Rises : {V : Type 0} → List (ℕ × V) → Type 0
 Rises entries = RisesFrom 0 entries
 
--- the same, by the places of the keys
+-- the same, by the places of the keys: a ghost field takes nothing that goes by recursion
 abbrev pub KeysRise : {V : Type 0} → List (ℕ × V) → Type 0
 KeysRise {V} entries = (i j : ℕ) (d : ℕ × V) → i < j → j < length entries
     → (slice_index_or entries i d).0 < (slice_index_or entries j d).0

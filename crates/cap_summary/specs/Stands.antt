@@ -1,20 +1,17 @@
--- What a summary stands for.
-use Rattle.std.specs.Prelude.{◌≡◌, List, length, Option}
-use Rattle.cap_summary.specs.{Step, declared.known.Known.Known, declared.summary.Summary.Summary}
-use Rattle.std.proofs.Common.{ap}
+-- What a summary stands for. And that each part is shorter than its node.
+use Rattle.std.specs.Prelude.{length, max, ◌≡◌, ◌≤◌}
+use Rattle.std.proofs.Common.{arith, length-append}
+use Rattle.cap_summary.specs.{Kept.HasParts, Kept.content_steps, List, Step, declared.summary.Summary.Summary}
+use Rattle.cap_summary.specs.declared.node.{Content.Content, Node.TheDeep.deep-Content}
 
 -- the steps that a summary sums up, from the first
 abbrev pub summed_up : Summary → List Step
 summed_up z = z.node.value.steps
 
--- what is kept of them
-abbrev pub kept_of : Summary → Option Known
-kept_of z = z.node.value.known
-
 -- a summary stands for a list of steps where it sums up just these
 pub record Stands (z : Summary) (t : List Step) : Type 0 where
   pub steps : summed_up z ≡ t
 
--- all lists that one summary stands for have its length
-pub stands_sized : (z : Summary) (t : List Step) → Stands z t → length (summed_up z) ≡ length t
-stands_sized z t is = ap (λ (r : List Step). length r) is.steps
+pub deep_le_length : (c : Content) → HasParts c → max (deep-Content c) 0 ≤ length (content_steps c)
+deep_le_length (Content.Run run) has = omega arith
+deep_le_length (Content.Both a b) has = omega (arith, length-append a.value.steps b.value.steps)

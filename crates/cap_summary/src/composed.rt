@@ -1,12 +1,11 @@
 //! The effect of two segments, one after the other.
 
 ghost use Rattle.std.specs.Prelude.{IfOk, IfSome, Some, false, is_none, option_copied, true, ℕ, ◌≡◌};
-ghost use Rattle.cap_summary.specs.{Names.IsRowWithin, Names.mode_within, Names.others_within, declared.key.Key.Key};
-ghost use Rattle.cap_summary.specs.{Names.ListWithin, Names.ReadWithin, Names.RowWithin, Sorted.Rises, option_map_or};
-ghost use Rattle.cap_summary.specs.{Closed, Keys.Cells, Names.Names, Sorted.found, Values.read};
-ghost use Rattle.cap_summary.specs.Effects.{base_cell, base_leaves, changed, is_from, leaves, row_cell, row_leaves};
-ghost use Rattle.cap_summary.specs.Effects.{passed};
-ghost use Rattle.cap_summary.specs.Composing.{IsComposedSo, IsHandedSo, IsJoinedEffect, IsOldAt, IsReplaced};
+ghost use Rattle.cap_summary.specs.{Composing.{IsComposedSo, IsHandedSo, IsJoinedEffect, IsOldAt}, option_map_or};
+ghost use Rattle.cap_summary.specs.Names.{IsRowWithin, ListWithin, ReadWithin, RowWithin, mode_within, others_within};
+ghost use Rattle.cap_summary.specs.Effects.{base_cell, base_leaves, changed, is_from, leaves, passed, row_cell};
+ghost use Rattle.cap_summary.specs.{Closed, Effects.row_leaves, Keys.{Cells, read}, Sorted.{Rises, found}};
+ghost use Rattle.cap_summary.specs.{Names.Names, declared.key.Key.Key};
 
 use crate::base::lower_of;
 use crate::reading::counted;
@@ -134,8 +133,7 @@ impl Replaced<'_> {
     /// that part is the first, then the second reads no other row of it.
     fn row(&self, pid: Pid, left: Option<&SharedRow>, right: &SharedRow) -> Option<&SharedRow>
         ensures { IfSome result (λ row. (first : Effect) → option_copied left.entry ≡ found first.rows pid
-            → IsOldAt self.now first pid (Some right.now) → IsComposedSo first pid (option_copied left.entry)
-            (Some right.now) (Some row.now)) }
+            → IsOldAt self.now first pid (Some right.now) → IsComposedSo first pid (Some right.now) (Some row.now)) }
     {
         let was = self.was.rows.get(pid);
         let stands = match self.side {
@@ -165,11 +163,11 @@ impl Combine for Composing<'_> {
     type Out = SharedRow;
 
     ghost use Rattle.std.specs.Prelude.{◌≡◌, IfSome, refl};
-    ghost use Rattle.cap_summary.specs.{Composing.IsComposedSo, Composing.IsOldAt, Effects.cell_in, Sorted.found};
-    ghost use Rattle.std.proofs.Common.{ap};
+    ghost use Rattle.cap_summary.specs.{Composing.{IsComposedSo, IsOldAt}, Effects.{cell_in, leaves_in}, Sorted.found};
+    ghost use Rattle.std.proofs.Common.{ap, sym};
 
     ghost gives = { λ s p left right out. left ≡ found s.first.now.rows p
-        → IfSome s.old (λ old. IsOldAt old s.first.now p right) → IsComposedSo s.first.now p left right out };
+        → IfSome s.old (λ old. IsOldAt old s.first.now p right) → IsComposedSo s.first.now p right out };
 
     fn combine(
         &self,
@@ -198,7 +196,7 @@ impl Combine for Composing<'_> {
 
     ghost neither = { λ s p is old. record {
       cells = λ cells k. ap (λ row. cell_in cells row p k) is;
-      leaves = λ k left. (refl, refl);
+      leaves = λ k left. (sym (ap (λ row. leaves_in row k) is), refl);
       names = λ names of within left read right. tt;
     } };
 }
@@ -257,7 +255,7 @@ impl Effect {
         later: &Effect,
         old: Option<Replaced<'_>>,
     ) -> Result<Effect, NoMemory>
-        requires { IsReplaced self.now later.now old }
+        requires { IfSome old (λ old. (p : ℕ) → IsOldAt old self.now p (found later.now.rows p)) }
         ensures { IfOk result (IsJoinedEffect self.now later.now) }
     {
         let step = Composing { first: self, old };

@@ -1,7 +1,7 @@
 //! What becomes of each cell over a segment.
 
 ghost use Rattle.std.specs.{Option.ForSome};
-ghost use Rattle.cap_summary.specs.{RowSizes.IsSizeOf};
+ghost use Rattle.cap_summary.specs.{Keys.IsSizeOf};
 
 use crate::{Base, Map, SharedRow, Value};
 

@@ -1,10 +1,9 @@
 //! What is known of a segment of a trace.
 
 ghost use Rattle.std.specs.Prelude.{◌≡◌, ◌<◌, ◌∷◌, ◌++◌, nat_le, true, List, [], IfOk, OnOk};
-ghost use Rattle.cap_summary.specs.{Step, start_state, values, part_at, Effects.leaves, RowSizes.AllRise};
-ghost use Rattle.cap_summary.specs.Composing.{AreAlike, KeepsEffect, IsJoined, IsJoinedEffect};
-ghost use Rattle.cap_summary.specs.Knows.{Knows, Says, finds, state_after};
-ghost use Rattle.cap_summary.specs.Preconditions.{IsSettled, IsAskedByBoth, IsSamePrecondition, size};
+ghost use Rattle.cap_summary.specs.{Composing.{AreAlike, IsJoined, IsJoinedEffect}, Effects.leaves, Keys.AllRise};
+ghost use Rattle.cap_summary.specs.{Knows.{Knows, Says, finds, state_after}, Step, part_at, start_state, values};
+ghost use Rattle.cap_summary.specs.Preconditions.{IsAskedByBoth, IsSamePrecondition, IsSettled, size};
 
 use crate::composed::Replaced;
 use crate::{Before, Effect, Key, LineAsks, Precondition};
@@ -81,11 +80,10 @@ impl Known {
 
     /// How far this is the same as what was known of a part in its place, where so much is known of it already: as far as
     /// that tells what may be kept of a whole.
-    #[tactic(auto, using(crate::proofs::Rejoining::keeps_none))]
     fn similarity_to(&self, was: &Known, side: Side, similarity: Similarity) -> Similarity
         requires { AreAlike similarity was.now self.now }
         ensures alike { AreAlike result was.now self.now }
-        ensures effect { KeepsEffect side result }
+        ensures effect { side ≡ Side.Left → result.precondition ≡ true → result.effect ≡ true }
     {
         let effect = similarity.effect || was.effect.is_same(&self.effect);
         if matches!(side, Side::Left) && !effect {

@@ -1,11 +1,11 @@
 //! The effect of one line.
 
-ghost use Rattle.std.specs.Prelude.{All, IfOk, None, OnOk, Some, false, if◌then◌else◌, true, unwrap_or, ℕ, ◌==◌, ◌≡◌};
-ghost use Rattle.cap_summary.specs.{Keys.Cells, Sorted.found, Values.read, declared.key.Key.Key, fds_spelled, is_child};
-ghost use Rattle.cap_summary.specs.Effects.{IsThenLine, LeavesThenLine, LineLeaves, line_after, row_leaves, sets_cells};
-ghost use Rattle.cap_summary.specs.Effects.{IsPut, IsStarted, LeavesPut, changed, is_cell, leaves, own_row, row_cell};
+ghost use Rattle.std.specs.Prelude.{IfOk, None, OnOk, Some, false, if◌then◌else◌, true, ℕ, ◌==◌, ◌≡◌, ◌⊎◌};
+ghost use Rattle.cap_summary.specs.{All, Keys.{Cells, read}, Sorted.found, declared.key.Key.Key, fds_spelled, is_child};
 ghost use Rattle.cap_summary.specs.Names.{EffectWithin, IsListedWithin, LineWithin, ListWithin, RowWithin, RowsWithin};
-ghost use Rattle.cap_summary.specs.Names.{Names};
+ghost use Rattle.cap_summary.specs.Effects.{IsStarted, LineLeaves, cell_in, changed, is_cell, is_touched, leaves};
+ghost use Rattle.cap_summary.specs.Effects.{leaves_in, line_after, own_row, row_cell, row_leaves, sets_cells};
+ghost use Rattle.cap_summary.specs.{Names.Names, unwrap_or};
 
 use crate::{
     Base, DefaultCells, Effect, Key, Map, Passing, Row, SharedOp, SharedRow, Value, cell_of_mode,
@@ -102,8 +102,11 @@ fn put_rows(
     line: &LineEffect<'_>,
     row: Row,
 ) -> Result<(), NoMemory>
-    ensures cells { OnOk result (IsPut line.now me row rows.old rows.new) }
-    ensures leaves { OnOk result (LeavesPut line.now me row rows.old rows.new) }
+    ensures cells { OnOk result ((cells : Cells) (p : ℕ) (k : Key) → cell_in cells (found rows.new p) p k
+        ≡ (if is_touched line.now me p then row_cell cells me row k else cell_in cells (found rows.old p) p k)) }
+    ensures leaves { OnOk result ((p : ℕ) (k : Key) → leaves_in (found rows.new p) k ≡ true
+        → ((is_touched line.now me p ≡ false) × (leaves_in (found rows.old p) k ≡ true))
+        ⊎ ((p ≡ me) × (is_child line.now me ≡ false) × (row_leaves row k ≡ true))) }
     ensures names { OnOk result ((names : Names) → LineWithin names me line.now → RowWithin names row
         → RowsWithin names rows.old → RowsWithin names rows.new) }
 {
@@ -151,8 +154,10 @@ impl Effect {
     /// that process and of a child that it makes are made anew.
     fn push_row(&mut self, alloc: Global, me: Pid, line: &LineEffect<'_>) -> Result<(), NoMemory>
         requires { sets_cells line.now ≡ false }
-        ensures cells { OnOk result (IsThenLine self.old line.now me self.new) }
-        ensures leaves { OnOk result (LeavesThenLine self.old line.now me self.new) }
+        ensures cells { OnOk result ((cells : Cells) (p : ℕ) (k : Key)
+            → changed self.new cells p k ≡ line_after line.now me (changed self.old cells) p k) }
+        ensures leaves { OnOk result ((p : ℕ) (k : Key) → leaves self.new p k ≡ true
+            → (leaves self.old p k ≡ true) × LineLeaves line.now me p k) }
         ensures names { OnOk result ((names : Names) → LineWithin names me line.now
             → EffectWithin names self.old → EffectWithin names self.new) }
     {
@@ -164,8 +169,10 @@ impl Effect {
 
     /// The effect of this segment and then a line of process `me`, in place. After an `Err` it is only to be dropped.
     pub fn push(&mut self, alloc: Global, me: Pid, line: &LineEffect<'_>) -> Result<(), NoMemory>
-        ensures cells { OnOk result (IsThenLine self.old line.now me self.new) }
-        ensures leaves { OnOk result (LeavesThenLine self.old line.now me self.new) }
+        ensures cells { OnOk result ((cells : Cells) (p : ℕ) (k : Key)
+            → changed self.new cells p k ≡ line_after line.now me (changed self.old cells) p k) }
+        ensures leaves { OnOk result ((p : ℕ) (k : Key) → leaves self.new p k ≡ true
+            → (leaves self.old p k ≡ true) × LineLeaves line.now me p k) }
         ensures names { OnOk result ((names : Names) → LineWithin names me line.now
             → EffectWithin names self.old → EffectWithin names self.new) }
     {

@@ -3,8 +3,8 @@
 ghost use Rattle.std.specs.Prelude.{◌≡◌, ◌+◌, ◌*◌, ◌^◌, ◌<◌, ◌≤◌, ◌++◌, ◌⊎◌, length, IfOk, OnOk, IfSome};
 ghost use Rattle.std.specs.Prelude.{IfNone, true, is_some, Some, option_copied};
 ghost use Rattle.cap_summary.specs.{check, start_state, values, part_at, State, Effects.state_before, Knows.Knows};
-ghost use Rattle.cap_summary.specs.{Preconditions.IsSettled, Content.content_steps, Content.HasParts, Content.AreKept};
-ghost use Rattle.cap_summary.specs.{Content.KeepsParts, Positions.found_in, Positions.AllOrMany, Positions.WereJudged};
+ghost use Rattle.cap_summary.specs.{Preconditions.IsSettled, Kept.content_steps, Kept.HasParts, Kept.AreKept};
+ghost use Rattle.cap_summary.specs.{Kept.KeepsParts, Positions.found_in, Positions.AllOrMany, Positions.WereJudged};
 ghost use Rattle.cap_summary.specs.Kept.{NameOrRefuseMany, IsKept, IsWithin, IsLarge, ListsMany};
 ghost use Rattle.cap_summary.specs.LastSteps.{IsNoLess, AreNoted, AgreeAfter, AreJudged};
 ghost use Rattle.cap_summary.specs.Composing.{NodeView, NodesCompose, IfKept, AreAlike};
@@ -41,7 +41,7 @@ impl Model for Node {
 
     ghost Value = { NodeView };
 
-    ghost use Rattle.cap_summary.specs.{Content.content_steps, Content.IsGood};
+    ghost use Rattle.cap_summary.specs.{Kept.content_steps, Kept.IsGood};
 
     ghost view = { λ a. record { steps = content_steps a.content; known = a.known } };
 
@@ -49,7 +49,7 @@ impl Model for Node {
 
     ghost size = { λ n. length n.steps };
 
-    ghost use Rattle.cap_summary.specs.{Falls.deep_le_length};
+    ghost use Rattle.cap_summary.specs.{Stands.deep_le_length};
 
     ghost size_decreases = { λ a h. deep_le_length a.content h.parts };
 }

@@ -2,8 +2,8 @@
 
 ghost use Rattle.std.specs.Prelude.{◌≡◌, ℕ, true, false, IfOk, option_copied};
 ghost use Rattle.cap_summary.specs.Effects.{own_row, row_cell, listed_value, row_leaves, leaves};
-ghost use Rattle.cap_summary.specs.{Names.{Names, RowWithin, only, has_cell}, Keys.Cells, RowSizes.IsSizeOf};
-ghost use Rattle.cap_summary.specs.{Values.reads_within, declared.key.Key.Key, Sorted.{found, Rises}};
+ghost use Rattle.cap_summary.specs.{Names.{Names, RowWithin, only, has_cell}, Keys.Cells, Keys.IsSizeOf};
+ghost use Rattle.cap_summary.specs.{Keys.reads_within, declared.key.Key.Key, Sorted.{found, Rises}};
 
 use crate::{Base, DefaultCells, Effect, Key, Map, Passing, Row, SharedRow, Value};
 use cap_trace::Pid;

@@ -1,7 +1,7 @@
 //! What a cell is after a segment, by the cells before it.
 
 ghost use Rattle.std.specs.Prelude.{◌≡◌, ℕ, Bool, true};
-ghost use Rattle.cap_summary.specs.{Keys.Cells, Values.read, Values.reads_within, declared.key.Key.Key};
+ghost use Rattle.cap_summary.specs.{Keys.Cells, Keys.read, Keys.reads_within, declared.key.Key.Key};
 
 use crate::{Key, SharedOp};
 use cap_machine::{Cell, OnExec};

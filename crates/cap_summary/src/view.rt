@@ -1,10 +1,9 @@
 //! What is seen of a cell after a segment.
 
 ghost use Rattle.std.specs.Prelude.{Bool, IfOk, IfSome, option_copied, true, ℕ, ◌≡◌};
-ghost use Rattle.cap_summary.specs.{Sorted.found, declared.key.Key.Key};
-ghost use Rattle.cap_summary.specs.Values.{read, reads_within, seen_cell, seen_within};
 ghost use Rattle.cap_summary.specs.Names.{IsRowWithin, Names, ReadWithin, RowWithin, has_cell, others_within};
-ghost use Rattle.cap_summary.specs.{applied, Effects.{base_cell, row_cell, changed, listed_value}, Keys.Cells};
+ghost use Rattle.cap_summary.specs.{Effects.{base_cell, changed, listed_value, row_cell}, Sorted.found, applied};
+ghost use Rattle.cap_summary.specs.{Keys.{Cells, read, reads_within, seen_cell, seen_within}, declared.key.Key.Key};
 
 use crate::{Base, DefaultCells, Effect, Key, Passing, Row, SharedOp, Value};
 use cap_machine::{Cell, Op};

@@ -36,10 +36,9 @@ impl<V: Clone> Clone for Map<V> {
 }
 
 impl<V: PartialEq> PartialEq for Map<V> {
-    ghost use Rattle.std.specs.{Cmp.Lexicographic.lists_per};
     ghost use Rattle.std.specs.Cmp.{and_per, on_per, partial_equiv_from_equiv, nat_eq_equiv};
+    ghost use Rattle.std.specs.Cmp.Lexicographic.{lists_per, pointwise};
     ghost use Rattle.std.specs.Prelude.{◌&&◌, ◌==◌};
-    ghost use Rattle.cap_summary.specs.{pointwise};
 
     ghost eq = { pointwise (λ x y. x.0 == y.0 && V.eq x.1 y.1) };
 

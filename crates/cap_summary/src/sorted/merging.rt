@@ -1,7 +1,6 @@
 //! Maps that are made of two.
 ghost use Rattle.std.specs.Prelude.{◌≡◌, ◌+◌, ◌<◌, ◌||◌, if◌then◌else◌, ℕ, true, Option, Some, None, [], length};
-ghost use Rattle.std.specs.Prelude.{is_some, IfOk, IfNone, IfSome, option_copied};
-ghost use Rattle.cap_summary.specs.Sorted.{found, Rises, RisesFrom};
+ghost use Rattle.cap_summary.specs.{IfNone, IfOk, IfSome, Sorted.{Rises, RisesFrom, found}, is_some, option_copied};
 
 use super::Map;
 use cap_tree::NoMemory;

@@ -1,5 +1,5 @@
 use Rattle.std.specs.Prelude.{All, min, take, ◌≡◌}
-use Rattle.cap_summary.specs.RowSizes.{CellsRise, rows_size}
+use Rattle.cap_summary.specs.Keys.{CellsRise, rows_size}
 use Rattle.cap_summary.proofs.reading.counted.Given as goal
 
 abbrev pub invariant-loop-entry : goal.invariant-loop-entry

@@ -1,6 +1,6 @@
 use Rattle.std.specs.Prelude.{List, false, is_some, length, true, ℕ, ◌/◌, ◌≡◌}
 use Rattle.cap_summary.proofs.{Resolving.judged_all, Resolving.later-none, Resolving.not_many, ap, arith, sym, ◌∙◌}
-use Rattle.cap_summary.specs.{Found, Positions.within, Stands.kept_of, Stands.summed_up, State, check, start_state}
+use Rattle.cap_summary.specs.{Found, Positions.within, Stands.summed_up, State, check, start_state}
 use Rattle.cap_summary.proofs.summary.report_range.Goals as goal
 
 pub returns-then-len-most-clause-found : goal.returns-then-len-most-clause-found
@@ -19,7 +19,7 @@ returns-clause-few c = λ kept.
     let all : List Found = check s (summed_up c.args.summary.now) in
     let n : ℕ = length (summed_up c.args.summary.now) in
     let len : c.len-most.result ≡ n = rw c.deref.ensures at c.len-most.ensures.count in
-    let is : c.is_kept.result ≡ is_some (kept_of c.args.summary.now) = rw c.deref-2.ensures at c.is_kept.ensures in
+    let is : c.is_kept.result ≡ is_some c.args.summary.now.node.value.known = rw c.deref-2.ensures at c.is_kept.ensures in
     elim c.if-is_kept.branch [
       | goal.then-is_kept+in_ok-resolve+else-len-most w ↦
           let found : List Found = w.resolve.new.report.found.items in

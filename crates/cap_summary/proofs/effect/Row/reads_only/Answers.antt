@@ -1,5 +1,5 @@
 use Rattle.cap_summary.proofs.{OwnCells.list_only, rules, sym, ◌∙◌}
-use Rattle.cap_summary.specs.{Names.has_cell, Names.only, Values.reads_within, declared.value.Value.Value, ℕ}
+use Rattle.cap_summary.specs.{Names.has_cell, Names.only, Keys.reads_within, declared.value.Value.Value, ℕ}
 use Rattle.std.proofs.{lemmas.Iterator.Search.all_from_yields_List, lemmas.Iterator.YieldsList-from_slice}
 use Rattle.cap_summary.proofs.effect.Row.reads_only.Goals as goal
 

@@ -2,7 +2,7 @@ use Rattle.std.specs.Prelude.{List, length, refl, ◌++◌, ◌+◌, ◌≡◌}
 use Rattle.cap_summary.proofs.{Judged.run_judged, Runs.same_steps, ap, arith, length-append, on_ok_weaker, sym, ◌∙◌}
 use Rattle.cap_summary.proofs.Agreeing.{agree_same, judged_both, none_judged, noted_parts}
 use Rattle.std.proofs.Common.{rules}
-use Rattle.cap_summary.specs.{Content.content_steps, State, Step, declared.judging.Report.Report, start_state, values}
+use Rattle.cap_summary.specs.{Kept.content_steps, State, Step, declared.judging.Report.Report, start_state, values}
 use Rattle.cap_summary.proofs.node.Node.+judge.Goals as goal
 
 pub judge-requires : goal.judge-requires

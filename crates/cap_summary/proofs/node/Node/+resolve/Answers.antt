@@ -2,7 +2,7 @@ use Rattle.std.specs.Prelude.{List, length, refl, true, ◌++◌, ◌≡◌, ◌
 use Rattle.cap_summary.proofs.{Runs.same_steps, ap, arith, inl, inr, length-append, on_ok_weaker, sym, ◌∙◌}
 use Rattle.cap_summary.proofs.Resolving.{found_all, found_outside, many_parts, not_many, some_found, stopped}
 use Rattle.cap_summary.proofs.Judged.{known_ends, run_judged}
-use Rattle.cap_summary.specs.{Content.content_steps, Effects.state_before, Found, Kept.IsKept, State, Step, check}
+use Rattle.cap_summary.specs.{Kept.content_steps, Effects.state_before, Found, Kept.IsKept, State, Step, check}
 use Rattle.cap_summary.specs.LineAsks.{has_any}
 use Rattle.cap_summary.proofs.node.Node.+resolve.Goals as goal
 

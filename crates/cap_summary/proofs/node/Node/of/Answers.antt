@@ -1,4 +1,4 @@
-use Rattle.cap_summary.specs.{List, length, Step, Content.content_steps}
+use Rattle.cap_summary.specs.{List, length, Step, Kept.content_steps}
 use Rattle.cap_summary.proofs.{arith, Keeping.node_keeps, Keeping.node_names, Keeping.keeps_parts}
 use Rattle.cap_summary.proofs.node.Node.of.Goals as goal
 
