@@ -12,7 +12,7 @@ use Rattle.cap_machine.specs.State.{State}
 use Rattle.cap_machine.specs.Check.{check}
 use Rattle.cap_machine.specs.Report.{report_line, line_about, finding_line}
 use Rattle.cap_machine.proofs.Positions.{positions_within}
-use Rattle.cap_summary.specs.LineAsks.{has_any}
+use Rattle.cap_summary.specs.Asks.{has_any}
 use Rattle.cap_summary.specs.Positions.{is_at, within}
 use Rattle.cap_session.specs.Session.{StandWithin}
 

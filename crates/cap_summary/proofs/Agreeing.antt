@@ -9,12 +9,12 @@ use Rattle.cap_machine.proofs.NamedFds.{named_sources}
 use Rattle.cap_summary.specs.{Check, declared.judging.Asked.Asked, declared.last_steps.LastSteps.LastSteps, requirement}
 use Rattle.cap_summary.specs.{Answer, Finding, Found, State, Touch, Unknown, applied, ended, follows, listed, touched}
 use Rattle.cap_summary.specs.{Cell, Item, Mode, Step, given, kept, said, stays, taken, touch, turns}
-use Rattle.cap_summary.specs.LastSteps.{AgreeAfter, AreJudged, AreNoted, IsNoLess, last_of}
+use Rattle.cap_summary.specs.Positions.{AgreeAfter, AreJudged, AreNoted, last_of}
 
 -- ---- steps whose processes are noted
 
-pub noted_later : (old new : LastSteps) (at : ℕ) (t : List Step) → IsNoLess old new → AreNoted old at t
-    → AreNoted new at t
+pub noted_later : (old new : LastSteps) (at : ℕ) (t : List Step) → ((p : ℕ) → last_of old p ≤ last_of new p)
+    → AreNoted old at t → AreNoted new at t
 noted_later old new at [] less noted = noted
 noted_later old new at (step ∷ t) less noted =
     (omega (arith, less step.line.pid, noted.0), noted_later old new (at + 1) t less noted.1)

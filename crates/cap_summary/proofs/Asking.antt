@@ -1,16 +1,10 @@
 -- Asks that hold in every state, in none, or in some.
-use Rattle.std.specs.Prelude.{Bool, List, [], false, if◌then◌else◌, not, refl, true, ℕ, ◌&&◌, ◌||◌, ◌∷◌, ◌≡◌}
-use Rattle.cap_summary.proofs.{Bools.and_left, Bools.and_right, ap, arith, inl, inr, or-true, or_cases, or_parts, ◌∙◌}
-use Rattle.cap_summary.proofs.TestPassing.{none_lacks, own_rights}
-use Rattle.cap_summary.specs.{Keys.cell_mode, declared.ask.Ask.Ask, declared.key.Key.Key, declared.kinds.Kinds.Kinds}
-use Rattle.cap_summary.specs.{Closed, Keys.Cells, Keys.cells_of, Keys.mode_cell, Outside, Unknown, has_all, list_all}
-use Rattle.cap_summary.specs.{Cell, Clear, Held, Inside, Mode, OnExec, Set, State, Unsure, none}
-use Rattle.cap_summary.specs.Tests.{any_held, any_kind, each_kind, has, has_kind, held_kind, holding, lacks, passes}
-use Rattle.cap_summary.specs.Asks.{IsOpen, certain_at, is_sure, possible_at, standing}
-
--- the state in which each cell and each mode is as given
-abbrev everywhere : Cell → Mode → State
-everywhere c m = record { cell = λ p f. c; mode = λ p. m }
+use Rattle.std.specs.Prelude.{if◌then◌else◌, ◌&&◌, ◌||◌, ◌∷◌, ◌≡◌}
+use Rattle.cap_summary.proofs.{TestPassing.none_lacks, TestPassing.own_rights, ap, arith, inl, inr, or_cases, ◌∙◌}
+use Rattle.cap_summary.specs.{Closed, Unknown, declared.ask.Ask.Ask, declared.key.Key.Key, has_all, list_all, list_any}
+use Rattle.cap_summary.specs.{Bool, Cell, Held, List, OnExec, State, [], false, none, refl, true, ℕ}
+use Rattle.cap_summary.specs.Asks.{IsOpen, each_kind, has_kind, holding, is_sure, passes, standing}
+use Rattle.cap_summary.specs.Keys.{Cells, cell_mode, cells_of}
 
 -- a state of chosen cells, with these rights where they are held
 abbrev pub chosen : ℕ → Cells → State
@@ -52,40 +46,13 @@ each_passes p alike all (Held r flag) = grind (arith, alike r flag, all)
 each_passes p alike all Unknown = grind (arith, all)
 each_passes p alike all Closed = grind (arith, all)
 
--- a test that some cell can pass has one that does: of a kind that passes, or one that holds no rights
-possible_passes : (f : ℕ) (a : Ask) → possible_at (Key.Fd f) a ≡ true → (c : Cell) × (passes a c ≡ true)
-possible_passes f a is = elim (or_cases (any_kind a.kinds) _ is) [
-  | inl any ↦ elim (or_cases (any_held a.kinds) _ any) [
-    | inl held ↦ of_held a.kinds held (λ c h. rw h refl)
-    | inr more ↦ elim (or_cases (has a.kinds 3) _ more) [ inl h ↦ (Unknown, rw h refl) | inr h ↦ (Closed, rw h refl) ]
-  ]
-  | inr lacking ↦ of_held a.lacking (and_left (any_held a.lacking) _ lacking)
-      (λ k h. rw (h, and_right (any_held a.lacking) _ lacking) (or-true (has a.kinds k)))
-]
-  where
-    of_held : (kinds : Kinds) → any_held kinds ≡ true
-        → ((k : ℕ) → has kinds k ≡ true → (has a.kinds k || (has a.lacking k && not (has_all none a.rights))) ≡ true)
-        → (c : Cell) × (passes a c ≡ true)
-    of_held kinds any passed = elim (or_cases (has kinds 0) _ any) [
-      | inl h ↦ (Held none Set, passed 0 h)
-      | inr more ↦ elim (or_cases (has kinds 1) (has kinds 2) more) [
-        | inl h ↦ (Held none Clear, passed 1 h)
-        | inr h ↦ (Held none Unsure, passed 2 h)
-      ]
-    ]
+-- one of some cells passes a test
+passing : (p : Cell → Bool) (cells : List Cell) → list_any p cells ≡ true → (c : Cell) × (p c ≡ true)
+passing p [] is = absurd cc
+passing p (c ∷ cells) is = elim (or_cases (p c) (list_any p cells) is) [ inl h ↦ (c, h) | inr h ↦ passing p cells h ]
 
 -- ---- in some state
--- a mode whose cell a test passes
-mode_passes : (a : Ask) → possible_at Key.Mode a ≡ true → (m : Mode) × (passes a (mode_cell m) ≡ true)
-mode_passes a is = elim (or_cases (passes a (mode_cell Mode.Unsure)) _ is) [
-  | inl h ↦ (Mode.Unsure, h)
-  | inr more ↦ elim (or_cases (passes a (mode_cell Inside)) _ more) [
-    | inl h ↦ (Inside, h)
-    | inr h ↦ (Outside, h)
-  ]
-]
-
-pub fails_somewhere : (p : ℕ) (k : Key) (a : Ask) → certain_at k a ≡ false
+pub fails_somewhere : (p : ℕ) (k : Key) (a : Ask) → list_all (is_sure a k) each_kind ≡ false
     → (s : State) × (passes a (cells_of s p k) ≡ false)
 fails_somewhere p k a is =
     let cells : Cells = λ q j. failing (is_sure a k) each_kind in (
@@ -93,39 +60,43 @@ fails_somewhere p k a is =
       ap (passes a) (stands a.rights cells p k) ∙ failing_fails (is_sure a k) each_kind is,
     )
 
-holds_somewhere : (p : ℕ) (k : Key) (a : Ask) → possible_at k a ≡ true
+holds_somewhere : (p : ℕ) (k : Key) (a : Ask) → list_any (λ (c : Cell). passes a (standing none k c)) each_kind ≡ true
     → (s : State) × (passes a (cells_of s p k) ≡ true)
-holds_somewhere p Key.Mode a is = let m = mode_passes a is in (everywhere Unknown m.0, m.1)
-holds_somewhere p (Key.Fd f) a is = let c = possible_passes f a is in (everywhere c.0 Mode.Unsure, c.1)
+holds_somewhere p k a is =
+    let one = passing (λ (c : Cell). passes a (standing none k c)) each_kind is in
+    let cells : Cells = λ q j. one.0 in
+    (chosen none cells, ap (passes a) (stands none cells p k) ∙ one.1)
 
-pub is_open : (ask : Ask) → certain_at ask.key ask ≡ false → possible_at ask.key ask ≡ true → IsOpen ask
+pub is_open : (ask : Ask) → list_all (is_sure ask ask.key) each_kind ≡ false
+    → list_any (λ (c : Cell). passes ask (standing none ask.key c)) each_kind ≡ true → IsOpen ask
 is_open ask certain possible = record {
   holds = holds_somewhere ask.pid ask.key ask possible;
   fails = fails_somewhere ask.pid ask.key ask certain;
 }
 
 -- ---- in no state
-unheld : (kinds : Kinds) (flag : OnExec) → any_held kinds ≡ false → has kinds (held_kind flag) ≡ false
-unheld kinds flag is = grind (arith, is)
+-- a held cell fails where one that holds no rights does
+held_fails : (a : Ask) (r : ℕ) (flag : OnExec) → passes a (Held none flag) ≡ false → passes a (Held r flag) ≡ false
+held_fails a r flag is = grind (arith, is, none_lacks)
 
-no_kind : (kinds : Kinds) (c : Cell) → any_kind kinds ≡ false → has_kind kinds c ≡ false
-no_kind kinds c is = grind (arith, is, unheld kinds)
+-- so a test fails each cell where it fails one of each kind
+each_fails : (p : Cell → Bool) → ((r : ℕ) (flag : OnExec) → p (Held none flag) ≡ false → p (Held r flag) ≡ false)
+    → list_any p each_kind ≡ false → (c : Cell) → p c ≡ false
+each_fails p held is (Held r flag) = grind (arith, held r flag, is)
+each_fails p held is Unknown = grind (arith, is)
+each_fails p held is Closed = grind (arith, is)
 
--- a cell that lacks some rights is one that can pass where a test looks at them
-none_lacked : (a : Ask) (c : Cell) → (any_held a.lacking && not (has_all none a.rights)) ≡ false
-    → (has_kind a.lacking c && lacks a.rights c) ≡ false
-none_lacked a c is = grind (arith, is, unheld a.lacking, none_lacks)
-
-pub never_passes : (p : ℕ) (k : Key) (a : Ask) → possible_at k a ≡ false → (s : State) → passes a (cells_of s p k) ≡ false
+pub never_passes : (p : ℕ) (k : Key) (a : Ask) → list_any (λ (c : Cell). passes a (standing none k c)) each_kind ≡ false
+    → (s : State) → passes a (cells_of s p k) ≡ false
 never_passes p Key.Mode a is s = grind (arith, is)
-never_passes p (Key.Fd f) a is s =
-    rw (no_kind a.kinds (s.cell p f) (or_parts _ _ is).0) (none_lacked a (s.cell p f) (or_parts _ _ is).1)
+never_passes p (Key.Fd f) a is s = each_fails (passes a) (held_fails a) is (s.cell p f)
 
 -- ---- in every state
 -- a test looks at the kind alone where no rights are lacked
 pub alike_sure : (a : Ask) (k : Key) (r : ℕ) (flag : OnExec) → is_sure a k (Held r flag) ≡ is_sure a k (Held none flag)
 alike_sure a k r flag = grind arith
 
-pub certain_holds : (p : ℕ) (k : Key) (a : Ask) → certain_at k a ≡ true → (s : State) → passes a (cells_of s p k) ≡ true
+pub certain_holds : (p : ℕ) (k : Key) (a : Ask) → list_all (is_sure a k) each_kind ≡ true → (s : State)
+    → passes a (cells_of s p k) ≡ true
 certain_holds p k a is s =
     sure_passes a s p k (each_passes (is_sure a k) (alike_sure a k) is (cells_of s p k))

@@ -3,11 +3,11 @@ use Rattle.std.specs.Prelude.{Bool, List, [], cond, length, map, nat_le, refl, �
 use Rattle.cap_summary.proofs.{ap, append-nil, arith, eq-eqb, length-map, sym, ◌∙◌}
 use Rattle.cap_summary.proofs.Resolving.{found_all, found_parts, one_found, said_at}
 use Rattle.cap_machine.proofs.Turns.{same_state}
-use Rattle.cap_summary.specs.{declared.effect.Effect.Effect, declared.judging.Report.Report, declared.known.Known.Known}
-use Rattle.cap_summary.specs.{Effects.changed, Keys.cell_mode, Mode, declared.judging.Asked.Asked, declared.key.Key.Key}
-use Rattle.cap_summary.specs.{Finding, Keys.Cells, Keys.cells_of, Keys.mode_cell, Keys.state_of, Knows.Knows, found_at}
-use Rattle.cap_summary.specs.{Found, Rc, State, Step, ended, said, values}
+use Rattle.cap_summary.specs.{Effects.changed, Keys.Cells, Keys.cell_mode, Keys.cells_of, Keys.mode_cell, Keys.state_of}
+use Rattle.cap_summary.specs.{Finding, Found, Knows.Knows, Mode, Rc, State, Step, ended, found_at, said, values}
 use Rattle.cap_summary.specs.Positions.{WereJudged, found_in, positions, said_in, starts}
+use Rattle.cap_summary.specs.declared.{effect.Effect.Effect, judging.Asked.Asked, judging.Report.Report, key.Key.Key}
+use Rattle.cap_summary.specs.declared.{known.Known.Known}
 
 pub mode_back : (m : Mode) → cell_mode (mode_cell m) ≡ m
 mode_back m = grind arith

@@ -1,8 +1,8 @@
 -- What is known is kept where few processes and descriptors are named, unless many calls were refused.
 use Rattle.std.specs.Prelude.{All, Bool, List, None, Some, [], cond, eqb, ℕ, ◌*◌, ◌++◌, ◌+◌, ◌<◌, ◌∷◌, ◌≡◌, ◌≤◌, ◌⊎◌}
 use Rattle.cap_summary.specs.{Preconditions.IsSettled, declared.known.Known.Known, declared.node.Content.Content, false}
-use Rattle.cap_summary.specs.{Kept.KeepsParts, Keys.CellsRise, Keys.rows_size, Step, declared.effect.Row.Row}
-use Rattle.cap_summary.specs.{LineAsks.refused, Keys.AllRise, min, Sorted.KeysRise, Sorted.Rises, Sorted.RisesFrom, refl}
+use Rattle.cap_summary.specs.{Asks.refused, Kept.KeepsParts, Keys.AllRise, Keys.CellsRise, Keys.rows_size}
+use Rattle.cap_summary.specs.{Sorted.KeysRise, Sorted.Rises, Sorted.RisesFrom, Step, declared.effect.Row.Row, min, refl}
 use Rattle.cap_summary.specs.{IfNone, IfSome, Knows.Knows, Option, Sorted.found, is_some, length, nat_le, true}
 use Rattle.cap_summary.specs.Kept.{IsKept, IsLarge, IsWithin, ListsMany, NameOrRefuseMany, is_one, room, these}
 use Rattle.cap_summary.specs.declared.node.Content.TheVariants.{Both, Run}

@@ -6,15 +6,16 @@ use Rattle.cap_summary.proofs.{All-append, All-cons, All-nil, ap, arith, fun_ext
 use Rattle.cap_summary.proofs.Naming.{asks_among, effect_among, first_among, second_among}
 use Rattle.cap_machine.specs.{Code.Table.step_after, History.turned}
 use Rattle.cap_machine.proofs.Turns.{ends_more}
-use Rattle.cap_summary.specs.{Rc, declared.line_asks.LineAsks.LineAsks, declared.precondition.Precondition.Precondition}
-use Rattle.cap_summary.specs.{declared.effect.Effect.Effect, declared.key.Key.Key, declared.known.Known.Known, found_at}
-use Rattle.cap_summary.specs.{Asks.AreWithin, Composing.IsJoined, Keys.cells_of, Keys.mode_cell, Knows.StepsLeave, Step}
-use Rattle.cap_summary.specs.{Keys.Cells, Knows.Knows, Knows.Says, LineEffect, effect_touch, effect_turn, requirement}
-use Rattle.cap_summary.specs.{State, Turn, check, ended, kept, later, said, stays, touch, touched, turn, values}
-use Rattle.cap_summary.specs.Names.{AreAmong, EffectWithin, LineWithin, Names, has_cell, names_in}
-use Rattle.cap_summary.specs.Effects.{LineLeaves, changed, leaves, line_after, turned_cell}
-use Rattle.cap_summary.specs.LineAsks.{asked_holds, asks_in, has_any, is_refusal, refusals_in, refused}
+use Rattle.cap_summary.specs.{Composing.IsJoined, Effects.leaves, Keys.Cells, Keys.cells_of, Keys.mode_cell}
+use Rattle.cap_summary.specs.{Knows.Knows, Knows.Says, Knows.StepsLeave, LineEffect, Rc, State, Step, Turn, check}
+use Rattle.cap_summary.specs.{effect_touch, effect_turn, ended, found_at, kept, later, requirement, said, stays, touch}
+use Rattle.cap_summary.specs.{touched, turn, values}
 use Rattle.cap_summary.specs.Preconditions.{AllSaid, IfNamed, IsWithMore, Open, Saying, Within, asks_size, is_met}
+use Rattle.cap_summary.specs.Effects.{LineLeaves, changed, line_after, turned_cell}
+use Rattle.cap_summary.specs.declared.{key.Key.Key, line_asks.LineAsks.LineAsks, precondition.Precondition.Precondition}
+use Rattle.cap_summary.specs.declared.{effect.Effect.Effect, known.Known.Known}
+use Rattle.cap_summary.specs.Asks.{AreWithin, asked_holds, asks_in, has_any, is_refusal, refusals_in, refused}
+use Rattle.cap_summary.specs.Names.{AreAmong, EffectWithin, LineWithin, Names, names_in}
 
 -- one more item of a run
 pub one_more : {X Z : Type 0} (run : List (Rc X Z)) (i : ℕ) (x : Rc X Z) → i < length run → x ≡ get_or run i x
@@ -150,11 +151,11 @@ module _ (step : Step) (line : LineEffect) (me : ℕ) (cells : (p f : ℕ) → e
       → ((cells : Cells) (p : ℕ) (k : Key) → changed new cells p k ≡ line_after line me (changed effect cells) p k)
       → ((p : ℕ) (k : Key) → leaves new p k ≡ true → (leaves effect p k ≡ true) × LineLeaves line me p k)
       → IsWithMore effect (λ cells. asked_holds cells asks)
-      (IfNamed (λ names. AreWithin (has_cell names) (asks_in asks))) 3 (refusals_in asks) pre more
+      (IfNamed (λ names. AreWithin names (asks_in asks))) 3 (refusals_in asks) pre more
       → ((s : State) → asked_holds (cells_of s) asks ≡ has_any (said step s))
       → ((names : Names) → LineWithin names me line → EffectWithin names effect → EffectWithin names new)
       → LineWithin (names_in (t ++ step ∷ [])) me line
-      → AreWithin (has_cell (names_in (t ++ step ∷ []))) (asks_in asks)
+      → AreWithin (names_in (t ++ step ∷ [])) (asks_in asks)
       → refusals_in asks ≤ (if is_refusal (requirement step.line).reply then 1 else 0) → Says new more (t ++ step ∷ [])
   says_more effect new pre more asks t so_far does leaves with says effects line_named asks_named one = record {
     after = λ s. after_more effect new t s (so_far.after s) does;

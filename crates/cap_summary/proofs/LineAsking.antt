@@ -2,10 +2,10 @@
 use Rattle.std.specs.Prelude.{◌≡◌, ◌∷◌, ◌++◌, ◌&&◌, ◌||◌, List, [], Bool, true, false, cond, refl, not, map}
 use Rattle.cap_machine.specs.{declared.rule.Class.Class, Judge.forbidden, Judge.is_excused, Judge.is_forbidden, Judge.judged}
 use Rattle.cap_machine.specs.{declared.verdict.Finding.TheVariants.Refusal}
-use Rattle.cap_summary.specs.{list_any, Cell, LimitWord, Check, Checks, Requirement, NotCapable, listed, all_excused, has_check, fault, faults, Mode}
-use Rattle.cap_summary.specs.{is_outside, Keys.mode_cell, LineAsks.has_any, Tests.has_kind}
+use Rattle.cap_summary.specs.{Asks.has_any, Asks.has_kind, Keys.mode_cell, Names.ChecksWithin, Names.Names, Requirement}
+use Rattle.cap_summary.specs.{Cell, Checks, LimitWord, NotCapable, all_excused, faults, has_check, is_outside, list_any}
+use Rattle.cap_summary.specs.{Check, Mode, fault, listed}
 use Rattle.cap_summary.specs.declared.kinds.TheConstants.Kinds.{CLOSED, UNHELD}
-use Rattle.cap_summary.specs.{Names.Names, Names.ChecksWithin}
 use Rattle.cap_summary.proofs.{arith, sym}
 
 pub has_any-append : {X : Type 0} (xs ys : List X) → has_any (xs ++ ys) ≡ (has_any xs || has_any ys)

@@ -5,10 +5,10 @@ use Rattle.cap_summary.proofs.{All-head, All-push, length-append, list_any-appen
 use Rattle.cap_summary.proofs.{ap, arith, or-true, subst, sym, ◌∙◌}
 use Rattle.cap_summary.specs.{declared.precondition.Precondition.Precondition, declared.up_to_three.UpToThree.UpToThree}
 use Rattle.cap_summary.specs.{Effects.changed, Names.EffectWithin, declared.ask.Ask.Ask, declared.effect.Effect.Effect}
-use Rattle.cap_summary.specs.{Asks.AreWithin, Asks.AskWithin, Asks.any_holds, Asks.holds, Keys.cells_of, Names.has_cell}
-use Rattle.cap_summary.specs.{Asks.IsOpen, Asks.asks_of, Global, Keys.Cells, Names.Names, State, Vec, list_any}
+use Rattle.cap_summary.specs.{Global, Keys.Cells, Keys.cells_of, Names.Names, State, Vec, list_any}
 use Rattle.cap_summary.specs.Preconditions.{IfNamed, IsPulledBack, IsRefusalSaid, IsSaid, IsWithMore, Open, is_wrongful}
 use Rattle.cap_summary.specs.Preconditions.{Saying, Within, is_met}
+use Rattle.cap_summary.specs.Asks.{AreWithin, AskWithin, IsOpen, any_holds, asks_of, holds}
 
 -- one of some asks holds in some state, where there are any and it depends on the state
 one_somewhere : (asks : List Ask) → All IsOpen asks → (length asks == 0) ≡ false
@@ -51,8 +51,8 @@ with_room first more about size room refusals most old new fits few with = recor
 pub more_asks : (first : Effect) (pre : Precondition) (later ask : Ask) (asks : Vec Ask Global)
     → asks.items ≡ pre.asks.items ++ ask ∷ [] → IsOpen ask
     → ((s : State) → holds (cells_of s) ask ≡ holds (changed first (cells_of s)) later)
-    → ((names : Names) → EffectWithin names first → AskWithin (has_cell names) later → AskWithin (has_cell names) ask)
-    → IsWithMore first (λ cells. holds cells later) (IfNamed (λ names. AskWithin (has_cell names) later)) 1 0 pre
+    → ((names : Names) → EffectWithin names first → AskWithin names later → AskWithin names ask)
+    → IsWithMore first (λ cells. holds cells later) (IfNamed (λ names. AskWithin names later)) 1 0 pre
     (record pre { asks = asks })
 more_asks first pre later ask asks is can same named = record {
   met = λ s. rw (← same s, is, list_any-append (holds (cells_of s)) pre.asks.items (ask ∷ [])) (grind arith);
@@ -65,7 +65,7 @@ more_asks first pre later ask asks is can same named = record {
 }
   where
     turned : (said : Saying) → IfNamed (λ names. EffectWithin names first) said
-        → IfNamed (λ names. AskWithin (has_cell names) later) said → IsSaid said ask
+        → IfNamed (λ names. AskWithin names later) said → IsSaid said ask
     turned (Within names) effect within = named names effect within
     turned Open effect about = can
 
@@ -91,7 +91,7 @@ module _ (first : Effect) (pre : Precondition) (later kept : UpToThree)
   pub one_refusal : (refusals : Vec UpToThree Global) → refusals.items ≡ pre.refusals.items ++ kept ∷ []
       → (length (asks_of kept) == 0) ≡ false → (s : State) × (any_holds (cells_of s) (asks_of kept) ≡ false)
       → IsWithMore first (λ cells. is_wrongful cells later)
-      (IfNamed (λ names. AreWithin (has_cell names) (asks_of later))) 1 1 pre (record pre { refusals = refusals })
+      (IfNamed (λ names. AreWithin names (asks_of later))) 1 1 pre (record pre { refusals = refusals })
   one_refusal refusals is some none = record {
     met = λ s. rw (← back.holds s, is, list_any-append (is_wrongful (cells_of s)) pre.refusals.items (kept ∷ []))
         (grind arith);
@@ -104,7 +104,7 @@ module _ (first : Effect) (pre : Precondition) (later kept : UpToThree)
   }
     where
       turned : (said : Saying) → IfNamed (λ names. EffectWithin names first) said
-          → IfNamed (λ names. AreWithin (has_cell names) (asks_of later)) said → IsRefusalSaid said kept
+          → IfNamed (λ names. AreWithin names (asks_of later)) said → IsRefusalSaid said kept
       turned (Within names) effect within = back.each (Within names) effect within
       turned Open effect about = let at = one_somewhere (asks_of kept) can some in
           record { asks = can; right = (at.0, ap not at.1); wrongful = (none.0, ap not none.1) }

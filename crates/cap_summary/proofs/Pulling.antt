@@ -4,14 +4,14 @@ use Rattle.std.specs.Prelude.{[], ℕ, ◌+◌, ◌<◌, ◌∷◌, ◌≡◌}
 use Rattle.cap_summary.proofs.{All-append, All-head, All-push, length-append, list_any-append, or-false, sym, take_more}
 use Rattle.cap_summary.proofs.{ap, arith, subst, ◌∙◌}
 use Rattle.cap_summary.proofs.Uniting.{all_left, all_right, drop_here, rises_put, rises_without}
-use Rattle.cap_summary.specs.{declared.precondition.Precondition.Precondition, declared.up_to_three.UpToThree.UpToThree}
-use Rattle.cap_summary.specs.{Asks.IsOpen, declared.ask.Ask.Ask, declared.effect.Effect.Effect, declared.effect.Row.Row}
-use Rattle.cap_summary.specs.{Effects.row_cell, Effects.row_leaves, Names.EffectWithin, declared.key.Key.Key, list_any}
-use Rattle.cap_summary.specs.{Asks.AskWithin, Asks.any_holds, Effects.changed, Global, Keys.cells_of, Names.has_cell}
-use Rattle.cap_summary.specs.{Asks.Rises, Asks.holds, Asks.place, Keys.Cells, Names.Names, Sorted.found, State, Vec}
-use Rattle.cap_summary.specs.Preconditions.{AreAskedByBoth, ArePulledBack, IsAskedByBoth, IsPulledBack, IsRefusalSaid}
-use Rattle.cap_summary.specs.Preconditions.{AllSaid, IfNamed, IsSettled, IsUnion, IsWithMore, asks_size, is_wrongful}
+use Rattle.cap_summary.specs.{Effects.changed, Effects.row_cell, Effects.row_leaves, Keys.cells_of, Names.EffectWithin}
+use Rattle.cap_summary.specs.{Global, Keys.Cells, Names.Names, Sorted.found, State, Vec, list_any}
+use Rattle.cap_summary.specs.Preconditions.{ArePulledBack, IsAskedByBoth, IsPulledBack, IsRefusalSaid, is_wrongful}
+use Rattle.cap_summary.specs.Preconditions.{AllSaid, IfNamed, IsSettled, IsUnion, IsUnionOf, IsWithMore, asks_size}
 use Rattle.cap_summary.specs.Preconditions.{IsSaid, Open, Saying, Within, is_met}
+use Rattle.cap_summary.specs.declared.{precondition.Precondition.Precondition, up_to_three.UpToThree.UpToThree}
+use Rattle.cap_summary.specs.declared.{ask.Ask.Ask, effect.Effect.Effect, effect.Row.Row, key.Key.Key}
+use Rattle.cap_summary.specs.Asks.{AskWithin, IsOpen, Rises, any_holds, holds, place}
 
 -- ---- a cell that the first segment leaves
 pub row_left : (cells : Cells) (p : ℕ) (row : Row) (k : Key) → row_leaves row k ≡ true → row_cell cells p row k ≡ cells p k
@@ -68,8 +68,7 @@ module _ (first : Effect) (asks : List Ask) (i : ℕ) (ask : Ask) (front rest : 
   -- one more, which becomes this one
   module _ (before : Ask) (can : IsOpen ask → IsOpen before)
       (same : (s : State) → holds (cells_of s) before ≡ holds (changed first (cells_of s)) ask)
-      (named : (names : Names) → EffectWithin names first → AskWithin (has_cell names) ask
-      → AskWithin (has_cell names) before) where
+      (named : (names : Names) → EffectWithin names first → AskWithin names ask → AskWithin names before) where
     turned : (said : Saying) → IfNamed (λ names. EffectWithin names first) said → IsSaid said ask → IsSaid said before
     turned (Within names) effect is = named names effect is
     turned Open effect is = can is
@@ -109,12 +108,6 @@ pulled_united first later kept moved (Some united) back near = (
   },
 )
 
-pub asked_by_both : (first : Effect) (own later back : List Ask) (both : Option (Vec Ask Global))
-    → IsPulledBack first later back → IsUnion own back both → AreAskedByBoth first own later both
-asked_by_both first own later back None is always = λ s.
-    ap (λ r. any_holds (cells_of s) own || r) (sym (is.holds s)) ∙ always s
-asked_by_both first own later back (Some both) is union = (back, is, union)
-
 -- ---- both segments
 -- something is found in every state
 pub always_asked : (first : Effect) (own later both : Precondition) → ((cells : Cells) → is_met cells both ≡ true)
@@ -134,15 +127,16 @@ always_asked first own later both always settled each nothing found = record {
 -- the first segment's refusals beside the asks of both, and then the refusals of the later one
 module _ (first : Effect) (own later before new : Precondition) (refusals : List UpToThree)
     (own_open : own.certain ≡ false) (later_open : later.certain ≡ false) (before_open : before.certain ≡ false)
-    (asked : AreAskedByBoth first own.asks.items later.asks.items (Some before.asks))
+    (back : List Ask) (pulled : IsPulledBack first later.asks.items back)
+    (asked : IsUnionOf own.asks.items back before.asks.items)
     (same : before.refusals.items ≡ own.refusals.items) (theirs : refusals ≡ later.refusals.items)
     (with : IsWithMore first (λ cells. list_any (is_wrongful cells) refusals)
     (λ said. All (IsRefusalSaid said) refusals) (length refusals) (length refusals) before new) where
   pub met_joined : (s : State) → is_met (cells_of s) new
       ≡ (is_met (cells_of s) own || is_met (changed first (cells_of s)) later)
   met_joined s = with.met s ∙ rw (
-    asked.2.holds (cells_of s),
-    asked.1.holds s,
+    asked.holds (cells_of s),
+    pulled.holds s,
     own_open,
     later_open,
     before_open,
@@ -155,14 +149,14 @@ module _ (first : Effect) (own later before new : Precondition) (refusals : List
     with = record {
       met = met_joined;
       each = λ said effect other mine. with.each said effect (rw theirs other.refusals) (record {
-        asks = asked.2.each said mine.asks (asked.1.each said effect other.asks);
+        asks = asked.each said mine.asks (pulled.each said effect other.asks);
         refusals = rw same mine.refusals;
       });
-      few = omega (arith, with.few, asked.2.few, asked.1.few, firsts, laters);
+      few = omega (arith, with.few, asked.few, pulled.few, firsts, laters);
       refusals = omega (arith, with.refusals, firsts, laters);
     };
     settled = record {
-      rises = rw asks asked.2.rises;
+      rises = rw asks asked.rises;
       alone = λ (is : new.certain ≡ true). absurd (let wrong : false ≡ true = sym new_open ∙ is in cc);
     };
   }

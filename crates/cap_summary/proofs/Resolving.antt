@@ -7,8 +7,8 @@ use Rattle.cap_summary.proofs.{ap, arith, inl, inr, sym, ◌∙◌}
 use Rattle.std.proofs.{Common.length-take, lemmas.List.Elements.filter-append, lemmas.List.Filters.length-filter_both}
 use Rattle.std.proofs.{Common.add_assoc, Common.le-leb, lemmas.Bool.lt-leb, lemmas.List.Elements.All-map}
 use Rattle.cap_machine.proofs.Positions.{positions_within}
-use Rattle.cap_summary.specs.{Finding, Found, LineAsks.has_any, State, Step, check, ended, found_at, later, said}
-use Rattle.cap_summary.specs.declared.judging.Asked.{Asked}
+use Rattle.cap_summary.specs.{Asks.has_any, Finding, Found, State, check, declared.judging.Asked.Asked, ended, found_at}
+use Rattle.cap_summary.specs.{Step, later, said}
 use Rattle.cap_summary.specs.Positions.{AllOrMany, found_in, is_at, said_in, within}
 
 later-later : (m n : ℕ) (xs : List Found) → map (later m) (map (later n) xs) ≡ map (later (m + n)) xs
@@ -53,9 +53,9 @@ not_many most found all is few = grind (arith, is, few)
 pub stopped : (most : ℕ) (found first second : List Found) → AllOrMany most found first → most < length found
     → AllOrMany most found (first ++ second)
 stopped most found first second (inl is) many =
-    inr (record { many = many; among = omega (arith, ap length is, length-append first second) })
+    inr (many, omega (arith, ap length is, length-append first second))
 stopped most found first second (inr are) many =
-    inr (record { many = many; among = omega (arith, are.among, length-append first second) })
+    inr (many, omega (arith, are.1, length-append first second))
 
 -- how many are found in two parts, and that some are
 pub many_parts : (s : State) (t u : List Step)
@@ -182,4 +182,4 @@ pub judged_all : (most n judged both from to : ℕ) (found all : List Found) →
 judged_all most n judged both from to found all is many (inl same) few then =
     omega (arith, ap length same, among_all from to all)
 judged_all most n judged both from to found all is many (inr are) few then =
-    omega (arith, are.among, among_all from to all)
+    omega (arith, are.1, among_all from to all)

@@ -4,15 +4,16 @@ use Rattle.cap_summary.proofs.{Bools.and_left, Bools.and_right, TestPassing.has_
 use Rattle.cap_summary.proofs.{ap, arith, eq-eqb, fun_ext, inl, inr, or-true, or_cases, or_parts, sym, ◌∙◌}
 use Rattle.cap_summary.proofs.Asking.{alike_sure, chosen, each_passes, failing, failing_fails, fails_with, sure_passes}
 use Rattle.cap_summary.proofs.Asking.{stands}
-use Rattle.cap_summary.specs.{Keys.cells_of, Tests.each_kind, Tests.passes, declared.ask.Ask.Ask, declared.key.Key.Key}
-use Rattle.cap_summary.specs.{Cell, Held, Keys.Cells, OnExec, State, has_all, join, list_any, none}
-use Rattle.cap_summary.specs.Asks.{any_holds, are_sure_at, holds, is_certain_in, is_sure, is_sure_at, key_number}
+use Rattle.cap_summary.specs.{Keys.Cells, Keys.cells_of, declared.ask.Ask.Ask, declared.key.Key.Key, list_all, list_any}
+use Rattle.cap_summary.specs.{Cell, Held, OnExec, State, has_all, join, none}
+use Rattle.cap_summary.specs.Asks.{any_holds, are_sure_at, each_kind, holds, is_sure, key_number, passes}
 
 same_key : (j k : Key) → key_number j ≡ key_number k → j ≡ k
 same_key j k is = grind (arith, is)
 
 -- an ask that surely passes the cell of a state holds there
-sure_holds : (a : Ask) (s : State) (p : ℕ) (k : Key) → is_sure_at p k (cells_of s p k) a ≡ true
+sure_holds : (a : Ask) (s : State) (p : ℕ) (k : Key)
+    → (((a.pid == p) && (key_number a.key == key_number k)) && is_sure a a.key (cells_of s p k)) ≡ true
     → holds (cells_of s) a ≡ true
 sure_holds a s p k is =
     let about = and_left ((a.pid == p) && (key_number a.key == key_number k)) _ is in
@@ -32,6 +33,10 @@ alike : (asks : List Ask) (p : ℕ) (k : Key) (r : ℕ) (flag : OnExec)
     → are_sure_at asks p k (Held r flag) ≡ are_sure_at asks p k (Held none flag)
 alike asks p k r flag = ap (λ (sure : Ask → Bool). list_any sure asks)
     (fun_ext (λ a. ap (λ x. ((a.pid == p) && (key_number a.key == key_number k)) && x) (alike_sure a a.key r flag)))
+
+-- one of some asks is about the cell of an ask and passes it, whatever it is
+abbrev pub is_certain_in : List Ask → Ask → Bool
+is_certain_in asks ask = list_all (are_sure_at asks ask.pid ask.key) each_kind
 
 module _ (all : List Ask) where
   pub one_certain : (asks : List Ask) → list_any (is_certain_in all) asks ≡ true → (s : State)
@@ -53,7 +58,8 @@ abbrev cells_chosen : List Ask → Cells
 cells_chosen all p k = failing (are_sure_at all p k) each_kind
 
 module _ (all : List Ask) (r : ℕ) where
-  one_fails : (a : Ask) → ((p : ℕ) (k : Key) (c : Cell) → are_sure_at all p k c ≡ false → is_sure_at p k c a ≡ false)
+  one_fails : (a : Ask) → ((p : ℕ) (k : Key) (c : Cell) → are_sure_at all p k c ≡ false
+      → (((a.pid == p) && (key_number a.key == key_number k)) && is_sure a a.key c) ≡ false)
       → has_all r a.rights ≡ true → is_certain_in all a ≡ false → holds (cells_of (chosen r (cells_chosen all))) a ≡ false
   one_fails a one has is =
       let p = a.pid in

@@ -6,7 +6,7 @@ use Rattle.std.proofs.{Math.Seq.take-append-add, lemmas.List.Elements.All-take}
 use Rattle.cap_machine.specs.Code.Walks.{cell_fd, cell_pid, mode_pid}
 use Rattle.cap_machine.proofs.Walking.{cells_may_be_left_out, modes_may_be_left_out}
 use Rattle.cap_summary.specs.{CellWalk, LeavesCell, LeavesMode, ModeWalk, State, Step, kept, stays, touch, turn}
-use Rattle.cap_summary.specs.PlaceInNode.{Origin, Passes, cell_seen, mode_seen}
+use Rattle.cap_summary.specs.Positions.{Origin, Passes, cell_seen, mode_seen}
 
 module _ {W : Type 0} (see : W → State → List Step → Origin) where
   -- the right part, and then the left one

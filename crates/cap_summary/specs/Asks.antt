@@ -1,11 +1,59 @@
--- What is asked of the cells before a segment.
-use Rattle.std.specs.Prelude.{All, Bool, List, false, min, not, take, true, ◌%◌, ◌&&◌, ◌*◌, ◌+◌, ◌==◌, ◌^◌, ◌||◌, ◌∷◌}
-use Rattle.std.specs.Prelude.{[], ℕ, ◌≡◌, ◌≤◌}
-use Rattle.cap_summary.specs.{Tests.each_kind, declared.ask.Pulled.Pulled, declared.up_to_three.UpToThree.UpToThree}
-use Rattle.cap_summary.specs.{Keys.cell_mode, declared.ask.Ask.Ask, declared.key.Key.Key, declared.kinds.Kinds.Kinds}
-use Rattle.cap_summary.specs.{Keys.Cells, Keys.cells_of, Keys.mode_cell, Tests.any_held, Tests.any_kind, Tests.holding}
-use Rattle.cap_summary.specs.{Cell, Inside, Mode, Outside, State, Tests.passes, has_all, list_all, list_any, none}
-use Rattle.cap_summary.specs.declared.ask.Pulled.TheVariants.{Always, Never, Where}
+-- What is asked of the cells before a segment, or before one line: tests of single cells.
+use Rattle.std.specs.Prelude.{if◌then◌else◌, ◌%◌, ◌&&◌, ◌*◌, ◌+◌, ◌==◌, ◌^◌, ◌||◌, ◌∷◌, ◌≡◌, ◌≤◌}
+use Rattle.cap_summary.specs.{Check, LimitWord, Names.Names, Names.has_cell, NotCapable, Unknown, list_any, requirement}
+use Rattle.cap_summary.specs.{Bool, Cell, Clear, Closed, Held, List, State, Step, Unsure, bit_at, false, fault, has_all}
+use Rattle.cap_summary.specs.{All, Set, [], min, none, not, take, true, ℕ}
+use Rattle.cap_summary.specs.declared.{ask.Pulled.Pulled, line_asks.LineAsks.LineAsks, up_to_three.UpToThree.UpToThree}
+use Rattle.cap_summary.specs.declared.{ask.Ask.Ask, key.Key.Key, kinds.Kinds.Kinds}
+use Rattle.cap_summary.specs.Keys.{Cells, cell_mode, cells_of, mode_cell}
+use Rattle.cap_machine.specs.{Judge.is_excused, declared.rule.Reply.Reply}
+
+-- ---- tests of one cell: which kinds of cell pass, and of held cells those that lack rights
+
+-- the number of a cell's kind
+abbrev pub kind_of : Cell → ℕ
+kind_of (Held rights Set) = 0
+kind_of (Held rights Clear) = 1
+kind_of (Held rights Unsure) = 2
+kind_of Unknown = 3
+kind_of Closed = 4
+
+-- a cell of each kind
+abbrev pub each_kind : List Cell
+each_kind = Held none Set ∷ Held none Clear ∷ Held none Unsure ∷ Unknown ∷ Closed ∷ []
+
+-- a kind is among these
+abbrev pub has : Kinds → ℕ → Bool
+has kinds kind = bit_at kinds.bits kind == 1
+
+-- a cell has one of these kinds
+abbrev pub has_kind : Kinds → Cell → Bool
+has_kind kinds cell = has kinds (kind_of cell)
+
+-- a cell is held, and lacks some of these rights
+abbrev pub lacks : ℕ → Cell → Bool
+lacks rights (Held held flag) = not (has_all held rights)
+lacks rights Unknown = false
+lacks rights Closed = false
+
+-- a cell passes the test of an ask
+abbrev pub passes : Ask → Cell → Bool
+passes ask cell = has_kind ask.kinds cell || (has_kind ask.lacking cell && lacks ask.rights cell)
+
+-- the cell, with these rights if it is held
+abbrev pub holding : ℕ → Cell → Cell
+holding rights (Held held flag) = Held rights flag
+holding rights Unknown = Unknown
+holding rights Closed = Closed
+
+-- the cell at a key for another cell: that of a mode, or the cell with these rights if it is held
+abbrev pub standing : ℕ → Key → Cell → Cell
+standing rights Key.Mode cell = mode_cell (cell_mode cell)
+standing rights (Key.Fd f) cell = holding rights cell
+
+-- it passes there, also where it lacks none of the rights
+abbrev pub is_sure : Ask → Key → Cell → Bool
+is_sure ask key cell = passes ask (standing ask.rights key cell)
 
 -- an ask holds of the cells before the segment
 abbrev pub holds : Cells → Ask → Bool
@@ -19,25 +67,6 @@ any_holds cells asks = list_any (holds cells) asks
 abbrev pub asks_of : UpToThree → List Ask
 asks_of three = take (min three.count 3) three.asks
 
--- the cell at a key for another cell: that of a mode, or the cell with these rights if it is held
-abbrev pub standing : ℕ → Key → Cell → Cell
-standing rights Key.Mode cell = mode_cell (cell_mode cell)
-standing rights (Key.Fd f) cell = holding rights cell
-
--- it passes there, also where it lacks none of the rights
-abbrev pub is_sure : Ask → Key → Cell → Bool
-is_sure ask key cell = passes ask (standing ask.rights key cell)
-
--- each cell that can stand at a key passes
-abbrev pub certain_at : Key → Ask → Bool
-certain_at key ask = list_all (is_sure ask key) each_kind
-
--- some cell that can stand at a key passes: of a descriptor one of a kind, or one that holds no rights, where it can
--- lack some
-abbrev pub possible_at : Key → Ask → Bool
-possible_at Key.Mode ask = passes ask (mode_cell Mode.Unsure) || (passes ask (mode_cell Inside) || passes ask (mode_cell Outside))
-possible_at (Key.Fd f) ask = any_kind ask.kinds || (any_held ask.lacking && not (has_all none ask.rights))
-
 -- whether an ask holds depends on the state
 pub record IsOpen (ask : Ask) : Type 0 where
   pub fails : (s : State) × (holds (cells_of s) ask ≡ false)
@@ -45,48 +74,36 @@ pub record IsOpen (ask : Ask) : Type 0 where
 
 -- an ask that was pulled back holds
 abbrev pub pulled_holds : Cells → Pulled → Bool
-pulled_holds cells Always = true
-pulled_holds cells Never = false
-pulled_holds cells (Where ask) = holds cells ask
+pulled_holds cells Pulled.Always = true
+pulled_holds cells Pulled.Never = false
+pulled_holds cells (Pulled.Where ask) = holds cells ask
 
 -- this holds of an ask that was pulled back, if it asks
 abbrev pub IfAsked : (Ask → Type 0) → Pulled → Type 0
-IfAsked P Always = Unit {0}
-IfAsked P Never = Unit {0}
-IfAsked P (Where ask) = P ask
+IfAsked P Pulled.Always = Unit {0}
+IfAsked P Pulled.Never = Unit {0}
+IfAsked P (Pulled.Where ask) = P ask
+
+-- the cell that an ask is about is named
+abbrev pub AskWithin : Names → Ask → Type 0
+AskWithin names ask = has_cell names ask.pid ask.key ≡ true
+
+abbrev pub AreWithin : Names → List Ask → Type 0
+AreWithin names asks = All (AskWithin names) asks
 
 -- ---- order: by process, then by key, then by the kinds of held cells at which rights are asked about
 abbrev pub key_number : Key → ℕ
 key_number Key.Mode = 0
 key_number (Key.Fd f) = f + 1
 
--- the kinds of held cells among these, as a number
-abbrev pub held_number : Kinds → ℕ
-held_number kinds = kinds.bits % 8
-
-abbrev pub place_in_process : Ask → ℕ
-place_in_process ask = 8 * key_number ask.key + held_number ask.lacking
-
 abbrev pub place : Ask → ℕ
-place ask = ask.pid * 2 ^ 36 + place_in_process ask
-
--- an ask is about a cell and passes it, also where it lacks none of the rights
-abbrev pub is_sure_at : ℕ → Key → Cell → Ask → Bool
-is_sure_at p k cell ask = ((ask.pid == p) && (key_number ask.key == key_number k)) && is_sure ask ask.key cell
-
--- one of these does
-abbrev pub are_sure_at : List Ask → ℕ → Key → Cell → Bool
-are_sure_at asks p k cell = list_any (is_sure_at p k cell) asks
-
--- one of these is about the cell of an ask and passes it, whatever it is
-abbrev pub is_certain_in : List Ask → Ask → Bool
-is_certain_in asks ask = list_all (are_sure_at asks ask.pid ask.key) each_kind
+place ask = ask.pid * 2 ^ 36 + (8 * key_number ask.key + ask.lacking.bits % 8)
 
 -- two asks stand at one place
 pub record IsAtPlace (ask other : Ask) : Type 0 where
   pub pid : ask.pid ≡ other.pid
   pub key : ask.key ≡ other.key
-  pub lacking : held_number ask.lacking ≡ held_number other.lacking
+  pub lacking : ask.lacking.bits % 8 ≡ other.lacking.bits % 8
 
 -- the places strictly rise, and none is below the bound
 abbrev pub RisesFrom : ℕ → List Ask → Type 0
@@ -97,9 +114,44 @@ RisesFrom bound (ask ∷ asks) = (bound ≤ place ask) × RisesFrom (place ask +
 abbrev pub Rises : List Ask → Type 0
 Rises asks = RisesFrom 0 asks
 
--- the cell that an ask is about is among these
-abbrev pub AskWithin : (ℕ → Key → Bool) → Ask → Type 0
-AskWithin names ask = names ask.pid ask.key ≡ true
+-- one of these asks is about a cell and passes it, also where it lacks none of the rights
+abbrev pub are_sure_at : List Ask → ℕ → Key → Cell → Bool
+are_sure_at asks p k cell = list_any
+    (λ (ask : Ask). ((ask.pid == p) && (key_number ask.key == key_number k)) && is_sure ask ask.key cell) asks
 
-abbrev pub AreWithin : (ℕ → Key → Bool) → List Ask → Type 0
-AreWithin names asks = All (AskWithin names) asks
+-- ---- what one line asks holds
+abbrev pub asked_holds : Cells → LineAsks → Bool
+asked_holds cells LineAsks.Always = true
+asked_holds cells (LineAsks.Where asks) = any_holds cells (asks_of asks)
+asked_holds cells (LineAsks.Unless asks) = not (any_holds cells (asks_of asks))
+
+-- its asks
+abbrev pub asks_in : LineAsks → List Ask
+asks_in LineAsks.Always = []
+asks_in (LineAsks.Where asks) = asks_of asks
+asks_in (LineAsks.Unless asks) = asks_of asks
+
+-- how many refusals there are
+abbrev pub refusals_in : LineAsks → ℕ
+refusals_in (LineAsks.Unless asks) = 1
+refusals_in asks = 0
+
+-- there is something
+abbrev pub has_any : {X : Type 0} → List X → Bool
+has_any [] = false
+has_any (x ∷ xs) = true
+
+-- a call that succeeded lacks the rights that a check needs; a refused one lacks those with which that is wrongful
+abbrev pub is_lacked : Bool → LimitWord → Check → Cell → Bool
+is_lacked false word check cell = has_any (fault word check cell)
+is_lacked true word check cell = not (is_excused check.excuse cell)
+
+-- a call was refused for lack of a right (errno 93)
+abbrev pub is_refusal : Reply → Bool
+is_refusal NotCapable = true
+is_refusal reply = false
+
+-- how many of them were
+abbrev pub refused : List Step → ℕ
+refused [] = 0
+refused (step ∷ rest) = (if is_refusal (requirement step.line).reply then 1 else 0) + refused rest

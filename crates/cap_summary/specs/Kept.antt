@@ -1,6 +1,6 @@
 -- What is kept of steps, where it is little or they don't name much and few were refused; and what holds of each node.
 use Rattle.std.specs.Prelude.{IfSome, List, Option, is_some, length, ◌*◌, ◌++◌, ◌+◌, ◌<◌, ◌==◌, ◌^◌, ◌≡◌, ◌≤◌, ◌⊎◌}
-use Rattle.cap_summary.specs.{Composing.NodeView, Keys.rows_size, LineAsks.refused, Names.AreAmong, Names.names_in, min}
+use Rattle.cap_summary.specs.{Composing.NodeView, Keys.rows_size, Asks.refused, Names.AreAmong, Names.names_in, min}
 use Rattle.cap_summary.specs.{Bool, IfNone, Keys.AllRise, Knows.Knows, Names.Names, Step, list_any, true, values, ℕ}
 use Rattle.cap_summary.specs.declared.{known.Known.Known, node.Content.Content}
 use Rattle.cap_summary.specs.Preconditions.{IsSettled, size}

@@ -1,10 +1,10 @@
 -- What an effect and a precondition say of the steps of a segment, whatever the state before them.
 use Rattle.std.specs.Prelude.{◌≡◌, ◌*◌, ◌≤◌, ℕ, Bool, true, List, length}
-use Rattle.cap_summary.specs.{Step, State, ended, check, LeavesCell, LeavesMode, Keys.state_of, Keys.cells_of}
-use Rattle.cap_summary.specs.{Effects.changed, Effects.leaves, LineAsks.refused, LineAsks.has_any}
-use Rattle.cap_summary.specs.{declared.effect.Effect.Effect, declared.key.Key.Key, declared.known.Known.Known}
-use Rattle.cap_summary.specs.{declared.precondition.Precondition.Precondition, Names.names_in, Names.EffectWithin}
-use Rattle.cap_summary.specs.Preconditions.{is_met, AllSaid, Within, Open, asks_size}
+use Rattle.cap_summary.specs.{Effects.changed, Effects.leaves, Keys.cells_of, Names.EffectWithin, Names.names_in, State}
+use Rattle.cap_summary.specs.{Asks.has_any, Asks.refused, Keys.state_of, LeavesCell, LeavesMode, Step, check, ended}
+use Rattle.cap_summary.specs.Preconditions.{AllSaid, Open, Within, asks_size, is_met}
+use Rattle.cap_summary.specs.declared.{effect.Effect.Effect, known.Known.Known, precondition.Precondition.Precondition}
+use Rattle.cap_summary.specs.declared.{key.Key.Key}
 
 -- no step touches a cell, or turns a mode
 abbrev pub StepsLeave : List Step → ℕ → Key → Type 0

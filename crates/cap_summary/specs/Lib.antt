@@ -1,10 +1,8 @@
 pub mod Prelude
 pub mod Keys
-pub mod Tests
 pub mod Asks
 pub mod Sorted
 pub mod Effects
-pub mod LineAsks
 pub mod Names
 pub mod Composing
 pub mod Preconditions
@@ -12,6 +10,4 @@ pub mod Knows
 pub mod Kept
 pub mod Stands
 pub mod Positions
-pub mod LastSteps
-pub mod PlaceInNode
 pub use Prelude.*

@@ -1,10 +1,10 @@
 -- Under which cells before a segment something is found in it.
 use Rattle.std.specs.Prelude.{All, Bool, List, None, Option, Some, [], false, length, not, true, ℕ, ◌+◌, ◌||◌, ◌≡◌, ◌≤◌}
-use Rattle.cap_summary.specs.{declared.effect.Effect.Effect, declared.precondition.Precondition.Precondition, list_any}
-use Rattle.cap_summary.specs.{Names.EffectWithin, Keys.rows_size, declared.ask.Ask.Ask, declared.known.Known.Known}
-use Rattle.cap_summary.specs.{Asks.AreWithin, Asks.AskWithin, Asks.any_holds, Effects.changed, Global, Names.has_cell}
-use Rattle.cap_summary.specs.{Asks.IsOpen, Asks.Rises, Asks.asks_of, Keys.Cells, Keys.cells_of, Names.Names, State, Vec}
-use Rattle.cap_summary.specs.declared.up_to_three.UpToThree.{UpToThree}
+use Rattle.cap_summary.specs.{Asks.AreWithin, Asks.AskWithin, Asks.IsOpen, Asks.Rises, Asks.any_holds, Asks.asks_of}
+use Rattle.cap_summary.specs.{Effects.changed, Global, Keys.Cells, Keys.cells_of, Keys.rows_size, Names.EffectWithin}
+use Rattle.cap_summary.specs.{Names.Names, State, Vec, declared.ask.Ask.Ask, declared.effect.Effect.Effect}
+use Rattle.cap_summary.specs.{declared.known.Known.Known, declared.precondition.Precondition.Precondition}
+use Rattle.cap_summary.specs.{declared.up_to_three.UpToThree.UpToThree, list_any}
 
 -- how many asks and refusals there are
 abbrev pub asks_size : Precondition → ℕ
@@ -34,11 +34,11 @@ pub data Saying : Type 0 where
   Open : Saying
 
 abbrev pub IsSaid : Saying → Ask → Type 0
-IsSaid (Within names) ask = AskWithin (has_cell names) ask
+IsSaid (Within names) ask = AskWithin names ask
 IsSaid Open ask = IsOpen ask
 
 abbrev pub IsRefusalSaid : Saying → UpToThree → Type 0
-IsRefusalSaid (Within names) refusal = AreWithin (has_cell names) (asks_of refusal)
+IsRefusalSaid (Within names) refusal = AreWithin names (asks_of refusal)
 IsRefusalSaid Open refusal = RefusalIsOpen refusal
 
 -- it is said of all that a precondition has
@@ -91,13 +91,6 @@ pub record IsPulledBack (first : Effect) (later back : List Ask) : Type 0 where
 abbrev pub ArePulledBack : Effect → List Ask → Option (Vec Ask Global) → Type 0
 ArePulledBack first later None = (s : State) → any_holds (changed first (cells_of s)) later ≡ true
 ArePulledBack first later (Some back) = Rises back.items × IsPulledBack first later back.items
-
--- the asks of the first segment and those of the later one, if it depends on the state whether one holds
-abbrev pub AreAskedByBoth : Effect → List Ask → List Ask → Option (Vec Ask Global) → Type 0
-AreAskedByBoth first own later None =
-    (s : State) → (any_holds (cells_of s) own || any_holds (changed first (cells_of s)) later) ≡ true
-AreAskedByBoth first own later (Some both) =
-    (back : List Ask) × IsPulledBack first later back × IsUnionOf own back both.items
 
 -- something is found where it is in the first segment, or in the later one
 pub record IsAskedByBoth (first : Effect) (own later both : Precondition) : Type 0 where

@@ -1,12 +1,11 @@
 //! What is asked of the cells before a segment.
 
-ghost use Rattle.std.specs.Prelude.{Bool, IfNone, IfSome, Some, option_copied, true, ℕ, ◌<◌, ◌||◌, ◌≡◌};
-ghost use Rattle.cap_summary.specs.{Cell, Keys.Cells, Keys.cells_of, State, applied, declared.key.Key.Key, nat_cmp};
+ghost use Rattle.std.specs.Prelude.{IfNone, IfSome, Some, option_copied, ◌||◌, ◌≡◌};
+ghost use Rattle.cap_summary.specs.{Cell, Keys.Cells, Keys.cells_of, State, applied, list_all, list_any, nat_cmp, none};
+ghost use Rattle.cap_summary.specs.Asks.{AskWithin, IfAsked, IsAtPlace, each_kind, has_kind, pulled_holds, standing};
+ghost use Rattle.cap_summary.specs.Asks.{IsOpen, holding, holds, is_sure, lacks, passes, place};
 ghost use Rattle.cap_summary.specs.Effects.{cell_in, changed, listed_value, row_cell};
-ghost use Rattle.cap_summary.specs.Asks.{AskWithin, IfAsked, IsAtPlace, certain_at, is_sure, possible_at, pulled_holds};
-ghost use Rattle.cap_summary.specs.Asks.{IsOpen, holds, place};
-ghost use Rattle.cap_summary.specs.Tests.{has_kind, holding, lacks, passes};
-ghost use Rattle.cap_summary.specs.Names.{EffectWithin, Names, RowWithin, has_cell};
+ghost use Rattle.cap_summary.specs.Names.{EffectWithin, Names, RowWithin};
 
 use crate::view::Seen;
 use crate::{Effect, Key, Kinds, Row, Value, cell_of_mode};
@@ -81,8 +80,7 @@ impl Ask {
         requires { IsAtPlace self.now other.now }
         ensures holds { (cells : Cells) → holds cells result ≡ (holds cells self.now || holds cells other.now) }
         ensures place { place result ≡ place self.now }
-        ensures names { (names : ℕ → Key → Bool) → names self.now.pid self.now.key ≡ true
-            → names result.pid result.key ≡ true }
+        ensures names { (names : Names) → AskWithin names self.now → AskWithin names result }
     {
         let kinds = self.kinds.join(&other.kinds);
         let rights = self.rights.join(&other.rights);
@@ -110,14 +108,14 @@ impl Ask {
 
     /// Whether it holds in every state.
     pub(crate) fn is_certain(&self) -> bool
-        ensures { result ≡ certain_at self.now.key self.now }
+        ensures { result ≡ list_all (is_sure self.now self.now.key) each_kind }
     {
         self.sure_kinds().is_full()
     }
 
     /// Whether it holds in some state.
     fn is_possible(&self) -> bool
-        ensures { result ≡ possible_at self.now.key self.now }
+        ensures { result ≡ list_any (λ (c : Cell). passes self.now (standing none self.now.key c)) each_kind }
     {
         match &self.key {
             Key::Mode => {
@@ -162,7 +160,7 @@ impl Ask {
     pub fn settled(self) -> Pulled
         ensures holds { (s : State) → pulled_holds (cells_of s) result ≡ holds (cells_of s) self }
         ensures open { IfAsked IsOpen result }
-        ensures names { (names : ℕ → Key → Bool) → names self.pid self.key ≡ true → IfAsked (AskWithin names) result }
+        ensures names { (names : Names) → AskWithin names self → IfAsked (AskWithin names) result }
     {
         if self.is_certain() {
             return Pulled::Always;
@@ -180,8 +178,8 @@ impl Ask {
         ensures holds { (s : State) → pulled_holds (cells_of s) result
             ≡ passes self.now (row_cell (cells_of s) self.now.pid row.now self.now.key) }
         ensures open { IfAsked IsOpen result }
-        ensures names { (names : Names) → RowWithin names row.now → has_cell names self.now.pid self.now.key ≡ true
-            → IfAsked (AskWithin (has_cell names)) result }
+        ensures names { (names : Names) → RowWithin names row.now → AskWithin names self.now
+            → IfAsked (AskWithin names) result }
     {
         let (pid, key, ask) = match row.view(self.pid, self.key, listed) {
             Seen::Is(cell) => {
@@ -202,8 +200,8 @@ impl Ask {
     pub(crate) fn before(&self, first: &Effect) -> Pulled
         ensures holds { (s : State) → pulled_holds (cells_of s) result ≡ holds (changed first.now (cells_of s)) self.now }
         ensures open { IfAsked IsOpen result }
-        ensures names { (names : Names) → EffectWithin names first.now → has_cell names self.now.pid self.now.key ≡ true
-            → IfAsked (AskWithin (has_cell names)) result }
+        ensures names { (names : Names) → EffectWithin names first.now → AskWithin names self.now
+            → IfAsked (AskWithin names) result }
     {
         match first.row(self.pid) {
             Some(row) => self.through(row, row.listed(self.key)),

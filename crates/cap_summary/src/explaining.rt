@@ -1,9 +1,8 @@
 //! What one step of a summary rests on.
 
 ghost use Rattle.std.specs.Prelude.{IfOk, None, OnOk, Some, [], if◌then◌else◌, length, map, true, ◌+◌, ◌<◌, ◌≡◌, ◌≤◌};
-ghost use Rattle.cap_summary.specs.{Positions.positions, Positions.within, Stands.summed_up, explanation, start_state};
-ghost use Rattle.cap_summary.specs.{Check, check, explained, listed, option_map};
-ghost use Rattle.cap_summary.specs.PlaceInNode.{IsPlace, history, state_at_start};
+ghost use Rattle.cap_summary.specs.{Check, Positions.IsPlace, Positions.history, Positions.positions, Positions.within};
+ghost use Rattle.cap_summary.specs.{Stands.summed_up, check, explained, explanation, listed, option_map, start_state};
 ghost use Rattle.cap_machine.specs.{Explain.mode_or_unsure, declared.provenance.CellProvenance.CellProvenance};
 ghost use Rattle.cap_machine.specs.{Explain.explained_by, Explain.mode_matters, History.cell_after, History.mode_after};
 ghost use Rattle.cap_machine.specs.declared.provenance.ModeProvenance.{ModeProvenance};
@@ -33,9 +32,9 @@ impl PlaceInNode<'_> {
     fn cell_provenance(&self, alloc: Global, pid: Pid, fd: Fd) -> Result<CellProvenance, NoMemory>
         requires { IsPlace self.now }
         ensures cell { IfOk result (λ provenance.
-            provenance.cell ≡ cell_after (state_at_start self.now) (history self.now) pid fd) }
+            provenance.cell ≡ cell_after (start_state self.now.start.now) (history self.now) pid fd) }
         ensures chain { IfOk result (λ provenance.
-            cell_chain_of provenance ≡ cell_chain (state_at_start self.now) (history self.now) pid fd) }
+            cell_chain_of provenance ≡ cell_chain (start_state self.now.start.now) (history self.now) pid fd) }
     {
         let mut walk = CellWalk::from(alloc, pid, fd);
         self.node.walk(&mut walk, 0, self.count)?;
@@ -52,10 +51,10 @@ impl PlaceInNode<'_> {
         requires { IsPlace self.now }
         ensures cells { IfOk result (λ provenances. map
             (λ (provenance : CellProvenance). provenance.cell) provenances.items
-            ≡ map (λ (check : Check). cell_after (state_at_start self.now) (history self.now) pid check.fd)
+            ≡ map (λ (check : Check). cell_after (start_state self.now.start.now) (history self.now) pid check.fd)
             (listed checks.now)) }
         ensures chains { IfOk result (λ provenances. map cell_chain_of provenances.items
-            ≡ map (λ (check : Check). cell_chain (state_at_start self.now) (history self.now) pid check.fd)
+            ≡ map (λ (check : Check). cell_chain (start_state self.now.start.now) (history self.now) pid check.fd)
             (listed checks.now)) }
     {
         let mut provenances = Vec::new(alloc);
@@ -80,11 +79,11 @@ impl PlaceInNode<'_> {
         requirement: &Requirement,
     ) -> Result<Option<ModeProvenance>, NoMemory>
         requires { IsPlace self.now }
-        ensures mode { mode_matters requirement.now ≡ true → IfOk result
-            (λ provenance. mode_or_unsure provenance ≡ mode_after (state_at_start self.now) (history self.now) pid) }
+        ensures mode { mode_matters requirement.now ≡ true → IfOk result (λ provenance. mode_or_unsure provenance
+            ≡ mode_after (start_state self.now.start.now) (history self.now) pid) }
         ensures chain { IfOk result (λ provenance. option_map mode_chain_of provenance
-            ≡ (if mode_matters requirement.now then Some (mode_chain (state_at_start self.now) (history self.now) pid)
-            else None)) }
+            ≡ (if mode_matters requirement.now
+            then Some (mode_chain (start_state self.now.start.now) (history self.now) pid) else None)) }
     {
         if !requirement.mode_matters() {
             return Ok(None);
@@ -98,7 +97,7 @@ impl PlaceInNode<'_> {
     fn explain(&self, alloc: Global, step: &Step) -> Result<Explanation, NoMemory>
         requires { IsPlace self.now }
         ensures { IfOk result
-            (λ e. explained_by e ≡ explained (state_at_start self.now) (history self.now) step.now) }
+            (λ e. explained_by e ≡ explained (start_state self.now.start.now) (history self.now) step.now) }
     {
         let line = step.line.view();
         let pid = line.pid;

@@ -1,8 +1,9 @@
 //! Which findings are asked for, what a report has, and the findings of a run of steps.
 
 ghost use Rattle.std.specs.Prelude.{◌≡◌, ◌&&◌, ◌+◌, ◌^◌, ◌<◌, ◌≤◌, ◌++◌, ◌∷◌, nat_le, [], length, IfOk, OnOk, map};
-ghost use Rattle.cap_summary.specs.{ended, said, start_state, findings_of, found_at, values, State, Effects.state_before};
-ghost use Rattle.cap_summary.specs.{LastSteps.AreNoted, LastSteps.AgreeAfter, LastSteps.AreJudged, Positions.said_in, Positions.found_in};
+ghost use Rattle.cap_summary.specs.{Effects.state_before, State, ended, findings_of, found_at, start_state, values};
+ghost use Rattle.cap_summary.specs.{said};
+ghost use Rattle.cap_summary.specs.Positions.{AgreeAfter, AreJudged, AreNoted, found_in, said_in};
 
 use crate::last_steps::LastSteps;
 use crate::{Before, Effect};

@@ -1,7 +1,7 @@
 //! Sets of kinds of cells.
 
 ghost use Rattle.std.specs.Prelude.{◌≡◌, ◌%◌, ◌<◌, ◌||◌};
-ghost use Rattle.cap_summary.specs.{Cell, Tests.kind_of, Tests.has, Tests.has_kind, Tests.any_kind, Tests.is_full};
+ghost use Rattle.cap_summary.specs.{Asks.each_kind, Asks.has, Asks.has_kind, Asks.kind_of, Cell, list_all, list_any};
 
 use cap_machine::{Cell, OnExec};
 
@@ -74,14 +74,14 @@ impl Kinds {
 
     /// Whether there is one.
     pub(crate) fn any(&self) -> bool
-        ensures { result ≡ any_kind self.now }
+        ensures { result ≡ list_any (has_kind self.now) each_kind }
     {
         self.bits % 32 != 0
     }
 
     /// Whether each kind is among them.
     pub(crate) fn is_full(&self) -> bool
-        ensures { result ≡ is_full self.now }
+        ensures { result ≡ list_all (has_kind self.now) each_kind }
     {
         self.bits % 32 == 31
     }

@@ -1,7 +1,7 @@
 //! Where each process makes its last step.
 
-ghost use Rattle.std.specs.Prelude.{◌≡◌, ◌≤◌, ◌+◌, ◌^◌, length, OnOk};
-ghost use Rattle.cap_summary.specs.{values, LastSteps.last_of, LastSteps.IsNoLess, LastSteps.AreNoted};
+ghost use Rattle.std.specs.Prelude.{OnOk, length, ℕ, ◌+◌, ◌^◌, ◌≡◌, ◌≤◌};
+ghost use Rattle.cap_summary.specs.{Positions.AreNoted, Positions.last_of, values};
 
 use cap_machine::Step;
 use cap_trace::Pid;
@@ -32,7 +32,7 @@ impl LastSteps {
 
     /// Notes a step of a process at a position.
     fn note(&mut self, pid: Pid, position: usize) -> Result<(), NoMemory>
-        ensures kept { OnOk result (IsNoLess self.old self.new) }
+        ensures kept { OnOk result ((p : ℕ) → last_of self.old p ≤ last_of self.new p) }
         ensures noted { OnOk result (position ≤ last_of self.new pid) }
     {
         let at = pid as usize;
@@ -46,7 +46,7 @@ impl LastSteps {
     /// Notes the steps of a run after so many others.
     pub(crate) fn note_run(&mut self, run: &[Rc<Step>], at: usize) -> Result<(), NoMemory>
         requires { at + length run.now ≤ 2 ^ 31 }
-        ensures kept { OnOk result (IsNoLess self.old self.new) }
+        ensures kept { OnOk result ((p : ℕ) → last_of self.old p ≤ last_of self.new p) }
         ensures noted { OnOk result (AreNoted self.new at (values run.now)) }
     {
         if run.len() == 0 {

@@ -1,11 +1,11 @@
 //! What one line asks of the cells before it.
 
 ghost use Rattle.std.specs.Prelude.{if◌then◌else◌, length, true, ◌&&◌, ◌||◌, ◌≡◌, ◌≤◌};
-ghost use Rattle.cap_summary.specs.{Keys.cells_of, Keys.mode_cell, Tests.has_kind, Tests.lacks, declared.key.Key.Key};
-ghost use Rattle.cap_summary.specs.{Check, Keys.Cells, LimitWord, State, findings_of, list_any, listed};
-ghost use Rattle.cap_summary.specs.Names.{ChecksWithin, DemandWithin, Names, has_cell};
-ghost use Rattle.cap_summary.specs.Asks.{AreWithin, AskWithin, any_holds, asks_of, holds};
-ghost use Rattle.cap_summary.specs.LineAsks.{asked_holds, asks_in, has_any, is_lacked, is_refusal, refusals_in};
+ghost use Rattle.cap_summary.specs.{Check, LimitWord, State, declared.key.Key.Key, findings_of, list_any, listed};
+ghost use Rattle.cap_summary.specs.Asks.{AreWithin, AskWithin, any_holds, asked_holds, holds, is_refusal, refusals_in};
+ghost use Rattle.cap_summary.specs.Asks.{asks_in, asks_of, has_any, has_kind, is_lacked, lacks};
+ghost use Rattle.cap_summary.specs.Names.{ChecksWithin, DemandWithin, Names};
+ghost use Rattle.cap_summary.specs.Keys.{Cells, cells_of, mode_cell};
 
 use crate::{Ask, Key, Kinds, UpToThree};
 use cap_machine::{Check, Checks, Class, Reply, Requirement};
@@ -29,7 +29,7 @@ fn of_mode(me: Pid, asked: bool, kinds: Kinds) -> UpToThree
     ensures holds { (s : State)
         → any_holds (cells_of s) (asks_of result) ≡ (asked && has_kind kinds (mode_cell (s.mode me))) }
     ensures one { length (asks_of result) ≤ 1 }
-    ensures names { (names : Names) → names.pids me ≡ true → AreWithin (has_cell names) (asks_of result) }
+    ensures names { (names : Names) → names.pids me ≡ true → AreWithin names (asks_of result) }
 {
     let mut asks = UpToThree::none();
     if asked {
@@ -49,7 +49,7 @@ fn of_mode(me: Pid, asked: bool, kinds: Kinds) -> UpToThree
 fn lacking(me: Pid, fd: Fd, kinds: Kinds, rights: &RightSet) -> Ask
     ensures holds { (cells : Cells) → holds cells result
         ≡ (has_kind kinds (cells me (Key.Fd fd)) || lacks rights.now (cells me (Key.Fd fd))) }
-    ensures names { (names : Names) → names.pids me ≡ true → names.fds fd ≡ true → AskWithin (has_cell names) result }
+    ensures names { (names : Names) → names.pids me ≡ true → names.fds fd ≡ true → AskWithin names result }
 {
     Ask {
         pid: me,
@@ -67,7 +67,7 @@ fn of_check(me: Pid, check: &Check, refused: bool) -> Ask
     ensures holds { (word : LimitWord) (cells : Cells)
         → holds cells result ≡ is_lacked refused word check.now (cells me (Key.Fd check.now.fd)) }
     ensures names { (names : Names) → names.pids me ≡ true → names.fds check.now.fd ≡ true
-        → AskWithin (has_cell names) result }
+        → AskWithin names result }
 {
     if !refused {
         return lacking(me, check.fd, Kinds::CLOSED, &check.needs);
@@ -85,7 +85,7 @@ fn with_checks(mode: UpToThree, me: Pid, checks: &Checks, refused: bool) -> UpTo
     ensures holds { (word : LimitWord) (s : State) → any_holds (cells_of s) (asks_of result) ≡ (any_holds (cells_of s) (asks_of mode)
         || list_any (λ (check : Check). is_lacked refused word check (s.cell me check.fd)) (listed checks.now)) }
     ensures names { (names : Names) → names.pids me ≡ true → ChecksWithin names checks.now
-        → AreWithin (has_cell names) (asks_of mode) → AreWithin (has_cell names) (asks_of result) }
+        → AreWithin names (asks_of mode) → AreWithin names (asks_of result) }
 {
     let mut asks = mode;
     match checks {
@@ -105,7 +105,7 @@ impl LineAsks {
         ensures holds { (s : State) → asked_holds (cells_of s) result ≡ has_any (findings_of requirement.now me s) }
         ensures refusals { refusals_in result ≤ (if is_refusal requirement.now.reply then 1 else 0) }
         ensures names { (names : Names) → DemandWithin names me requirement.now
-            → AreWithin (has_cell names) (asks_in result) }
+            → AreWithin names (asks_in result) }
     {
         match (requirement.reply, requirement.class) {
             (Reply::Success, class) => {

@@ -1,13 +1,14 @@
 //! The nodes of a summary. A contract sees a node as its steps, and what is known of them where that is kept.
 
 ghost use Rattle.std.specs.Prelude.{◌≡◌, ◌+◌, ◌*◌, ◌^◌, ◌<◌, ◌≤◌, ◌++◌, ◌⊎◌, length, IfOk, OnOk, IfSome};
-ghost use Rattle.std.specs.Prelude.{IfNone, true, is_some, Some, option_copied};
-ghost use Rattle.cap_summary.specs.{check, start_state, values, part_at, State, Effects.state_before, Knows.Knows};
-ghost use Rattle.cap_summary.specs.{Preconditions.IsSettled, Kept.content_steps, Kept.HasParts, Kept.AreKept};
-ghost use Rattle.cap_summary.specs.{Kept.KeepsParts, Positions.found_in, Positions.AllOrMany, Positions.WereJudged};
-ghost use Rattle.cap_summary.specs.Kept.{NameOrRefuseMany, IsKept, IsWithin, IsLarge, ListsMany};
-ghost use Rattle.cap_summary.specs.LastSteps.{IsNoLess, AreNoted, AgreeAfter, AreJudged};
-ghost use Rattle.cap_summary.specs.Composing.{NodeView, NodesCompose, IfKept, AreAlike};
+ghost use Rattle.cap_summary.specs.{Composing.AreAlike, Composing.IfKept, Composing.NodeView, Composing.NodesCompose};
+ghost use Rattle.cap_summary.specs.{Effects.state_before, Kept.AreKept, Kept.HasParts, Kept.IsKept, Kept.IsLarge};
+ghost use Rattle.cap_summary.specs.{Kept.IsWithin, Kept.KeepsParts, Kept.ListsMany, Kept.NameOrRefuseMany};
+ghost use Rattle.cap_summary.specs.{Kept.content_steps, Knows.Knows, Positions.AgreeAfter, Positions.AllOrMany};
+ghost use Rattle.cap_summary.specs.{Positions.AreJudged, Positions.AreNoted, Positions.WereJudged, Positions.found_in};
+ghost use Rattle.cap_summary.specs.{Positions.last_of, Preconditions.IsSettled, State, check, part_at, start_state};
+ghost use Rattle.cap_summary.specs.{values};
+ghost use Rattle.std.specs.Prelude.{IfNone, Some, is_some, option_copied, true, ℕ};
 
 use crate::judging::{Asked, judge_in_order, judge_run};
 use crate::last_steps::LastSteps;
@@ -335,7 +336,7 @@ impl Node {
     /// Notes of each process where it makes its last step, after so many others.
     pub(crate) fn note_last(&self, at: usize, last: &mut LastSteps) -> Result<(), NoMemory>
         requires { at + length self.now.steps ≤ 2 ^ 31 }
-        ensures kept { OnOk result (IsNoLess last.old last.new) }
+        ensures kept { OnOk result ((p : ℕ) → last_of last.old p ≤ last_of last.new p) }
         ensures noted { OnOk result (AreNoted last.new at self.now.steps) }
     {
         match &self.content {

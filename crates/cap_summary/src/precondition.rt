@@ -1,12 +1,11 @@
 //! Under which states before a segment something is found in it.
 
 ghost use Rattle.std.specs.Prelude.{All, IfOk, OnOk, [], false, length, option_copied, true, ◌≡◌, ◌≤◌};
-ghost use Rattle.cap_summary.specs.{Keys.Cells, Keys.cells_of, Names.has_cell, Sorted.found, State, list_any};
-ghost use Rattle.cap_summary.specs.LineAsks.{asked_holds, asks_in, refusals_in};
-ghost use Rattle.cap_summary.specs.Preconditions.{AreAskedByBoth, ArePulledBack, IsAskedByBoth, IsSamePrecondition};
-ghost use Rattle.cap_summary.specs.Preconditions.{IsRefusalSaid, IsSettled, IsWithMore, Saying, asks_size, is_wrongful};
-ghost use Rattle.cap_summary.specs.Preconditions.{AllSaid, IfNamed, is_met};
-ghost use Rattle.cap_summary.specs.Asks.{AreWithin, Rises, any_holds, asks_of};
+ghost use Rattle.cap_summary.specs.{Keys.Cells, Keys.cells_of, Sorted.found, State, list_any};
+ghost use Rattle.cap_summary.specs.Preconditions.{ArePulledBack, IsAskedByBoth, IsRefusalSaid, IsSamePrecondition};
+ghost use Rattle.cap_summary.specs.Preconditions.{AllSaid, IfNamed, IsSettled, IsWithMore, asks_size, is_wrongful};
+ghost use Rattle.cap_summary.specs.Preconditions.{Saying, is_met};
+ghost use Rattle.cap_summary.specs.Asks.{AreWithin, Rises, any_holds, asked_holds, asks_in, asks_of, refusals_in};
 
 use crate::asks::{in_order, unite, unite_unordered};
 use crate::{Ask, Effect, LineAsks, Pulled, Row, UpToThree};
@@ -65,24 +64,6 @@ fn pulled_asks(alloc: Global, first: &Effect, asks: &[Ask]) -> Result<Option<Vec
     unite_unordered(alloc, kept, moved)
 }
 
-/// The asks of a segment and those of a later one, which are pulled back through the effect of the first, in order; `None`
-/// where one of them holds in every state.
-fn asks_of_both(
-    alloc: Global,
-    own: &[Ask],
-    first: &Effect,
-    later: &[Ask],
-) -> Result<Option<Vec<Ask>>, NoMemory>
-    requires own { Rises own.now }
-    requires later { Rises later.now }
-    ensures { IfOk result (AreAskedByBoth first.now own.now later.now) }
-{
-    let Some(back) = pulled_asks(alloc, first, later)? else {
-        return Ok(None);
-    };
-    unite(alloc, own, &back)
-}
-
 impl Precondition {
     /// Nothing is found in any state. It has room for so many asks.
     pub fn never(alloc: Global, room: usize) -> Result<Precondition, NoMemory>
@@ -128,7 +109,7 @@ impl Precondition {
     /// Something is also found where one of these holds after an earlier segment.
     fn put_after(&mut self, first: &Effect, asks: &[Ask]) -> Result<(), NoMemory>
         ensures { OnOk result (IsWithMore first.now (λ cells. any_holds cells asks.now)
-            (IfNamed (λ names. AreWithin (has_cell names) asks.now)) (length asks.now) 0 self.old self.new) }
+            (IfNamed (λ names. AreWithin names asks.now)) (length asks.now) 0 self.old self.new) }
     {
         for ask in asks {
             match ask.before(first) {
@@ -143,7 +124,7 @@ impl Precondition {
     /// Something is also found where a refusal is wrongful after an earlier segment, which it is unless one of these holds.
     fn refuse_after(&mut self, first: &Effect, unless: &UpToThree) -> Result<(), NoMemory>
         ensures more { OnOk result (IsWithMore first.now (λ cells. is_wrongful cells unless.now)
-            (IfNamed (λ names. AreWithin (has_cell names) (asks_of unless.now))) 1 1 self.old self.new) }
+            (IfNamed (λ names. AreWithin names (asks_of unless.now))) 1 1 self.old self.new) }
         ensures asks { self.new.asks ≡ self.old.asks }
     {
         let pulled = unless.before(first);
@@ -164,7 +145,7 @@ impl Precondition {
     /// Something is also found where it is in a line after an earlier segment.
     pub fn put_line(&mut self, first: &Effect, asks: &LineAsks) -> Result<(), NoMemory>
         ensures { OnOk result (IsWithMore first.now (λ cells. asked_holds cells asks.now)
-            (IfNamed (λ names. AreWithin (has_cell names) (asks_in asks.now))) 3 (refusals_in asks.now) self.old
+            (IfNamed (λ names. AreWithin names (asks_in asks.now))) 3 (refusals_in asks.now) self.old
             self.new) }
     {
         match asks {
@@ -205,7 +186,10 @@ impl Precondition {
             return Ok(Precondition::always(alloc));
         }
         let (own, theirs) = (self.asks.as_slice(), later.asks.as_slice());
-        let Some(asks) = asks_of_both(alloc, own, first, theirs)? else {
+        let Some(back) = pulled_asks(alloc, first, theirs)? else {
+            return Ok(Precondition::always(alloc));
+        };
+        let Some(asks) = unite(alloc, own, &back)? else {
             return Ok(Precondition::always(alloc));
         };
         let room = self.refusals.len().saturating_add(later.refusals.len());

@@ -1,9 +1,9 @@
 //! Lists of at most three asks.
 
-ghost use Rattle.std.specs.Prelude.{All, IfNone, IfSome, [], length, true, ◌++◌, ◌<◌, ◌||◌, ◌∷◌, ◌≡◌, ◌≤◌};
-ghost use Rattle.cap_summary.specs.{Asks.are_sure_at, Asks.is_certain_in, Effects.changed, Preconditions.IsPulledBack};
-ghost use Rattle.cap_summary.specs.{Asks.AreWithin, Asks.AskWithin, Asks.any_holds, Keys.cells_of, Names.has_cell};
-ghost use Rattle.cap_summary.specs.{Asks.IsOpen, Asks.asks_of, Asks.holds, Keys.Cells, Names.Names, State, list_any};
+ghost use Rattle.std.specs.Prelude.{All, IfNone, IfSome, [], false, length, true, ◌++◌, ◌<◌, ◌||◌, ◌∷◌, ◌≡◌, ◌≤◌};
+ghost use Rattle.cap_summary.specs.{Asks.AreWithin, Asks.are_sure_at, Effects.changed, Preconditions.IsPulledBack};
+ghost use Rattle.cap_summary.specs.{Asks.AskWithin, Asks.any_holds, Asks.asks_of, Asks.each_kind, Keys.cells_of, State};
+ghost use Rattle.cap_summary.specs.{Asks.IsOpen, Asks.holds, Keys.Cells, Names.Names, list_all};
 
 use crate::{Ask, Effect, Key, Kinds, Pulled};
 use cap_rights::RightSet;
@@ -48,8 +48,8 @@ impl UpToThree {
         ensures asks { asks_of self.new ≡ asks_of self.old ++ ask ∷ [] }
         ensures holds { (cells : Cells) → any_holds cells (asks_of self.new)
             ≡ (any_holds cells (asks_of self.old) || holds cells ask) }
-        ensures names { (names : Names) → AreWithin (has_cell names) (asks_of self.old)
-            → AskWithin (has_cell names) ask → AreWithin (has_cell names) (asks_of self.new) }
+        ensures names { (names : Names) → AreWithin names (asks_of self.old) → AskWithin names ask
+            → AreWithin names (asks_of self.new) }
     {
         self.asks[self.count] = ask;
         self.count += 1;
@@ -75,7 +75,7 @@ impl UpToThree {
 
     /// Whether each cell passes one of these that is about the cell of an ask.
     fn are_sure_at(&self, at: &Ask) -> bool
-        ensures { result ≡ is_certain_in (asks_of self.now) at.now }
+        ensures { result ≡ list_all (are_sure_at (asks_of self.now) at.now.pid at.now.key) each_kind }
     {
         let mut kinds = Kinds::NONE;
         for ask in self.as_slice() {
@@ -88,7 +88,8 @@ impl UpToThree {
 
     /// Whether one of these holds in every state.
     pub(crate) fn is_certain(&self) -> bool
-        ensures { result ≡ list_any (is_certain_in (asks_of self.now)) (asks_of self.now) }
+        ensures always { result ≡ true → (s : State) → any_holds (cells_of s) (asks_of self.now) ≡ true }
+        ensures fails { result ≡ false → (s : State) × (any_holds (cells_of s) (asks_of self.now) ≡ false) }
     {
         self.as_slice().iter().any(|ask| self.are_sure_at(ask))
     }

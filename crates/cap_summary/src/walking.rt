@@ -2,7 +2,7 @@
 
 ghost use Rattle.std.specs.Prelude.{List, OnOk, [], length, take, true, ℕ, ◌+◌, ◌<◌, ◌^◌, ◌∷◌, ◌≡◌, ◌≤◌};
 ghost use Rattle.cap_summary.specs.{Knows.Knows, State, Step, slice_index_or, values};
-ghost use Rattle.cap_summary.specs.PlaceInNode.{Origin, Passes, cell_seen, mode_seen};
+ghost use Rattle.cap_summary.specs.Positions.{Origin, Passes, cell_seen, mode_seen};
 
 use crate::node::{Content, Node};
 use crate::{Key, Known};

@@ -3,8 +3,8 @@ use Rattle.cap_summary.proofs.{IfOk-weaker, ap, append-nil, append_assoc, arith,
 use Rattle.cap_summary.proofs.Pulling.{kept_more, kept_same, pulled_never, pulled_none, pulled_put, pulled_united}
 use Rattle.std.proofs.lemmas.List.Folds.{list_any_at}
 use Rattle.cap_summary.specs.{Effects.cell_in, Names.EffectWithin, Names.IsRowWithin, Names.Names, declared.ask.Ask.Ask}
-use Rattle.cap_summary.specs.{Effects.changed, Equal, Keys.cells_of, Names.has_cell, Sorted.found, State, Tests.passes}
-use Rattle.cap_summary.specs.Asks.{AskWithin, IfAsked, IsOpen, holds, pulled_holds}
+use Rattle.cap_summary.specs.{Effects.changed, Equal, Keys.cells_of, Sorted.found, State}
+use Rattle.cap_summary.specs.Asks.{AskWithin, IfAsked, IsOpen, holds, passes, pulled_holds}
 use Rattle.cap_summary.proofs.precondition.pulled_asks.Goals as goal
 
 pub loop-ask-init : goal.loop-ask-init
@@ -55,8 +55,8 @@ loop-ask-preserved c =
     let pulled = c.through.result in
     let met : (s : State) → pulled_holds (cells_of s) pulled ≡ holds (changed first (cells_of s)) ask = λ s.
     c.through.ensures.holds s ∙ ap (λ r. passes ask (cell_in (cells_of s) r ask.pid ask.key)) (sym by) in
-    let named : (names : Names) → EffectWithin names first → AskWithin (has_cell names) ask
-    → IfAsked (AskWithin (has_cell names)) pulled = λ names effect.
+    let named : (names : Names) → EffectWithin names first → AskWithin names ask
+    → IfAsked (AskWithin names) pulled = λ names effect.
     let own : IsRowWithin names ask.pid c.in-Some.by.now =
     subst (λ r. IfSome r (IsRowWithin names ask.pid)) by (effect ask.pid) in
     c.through.ensures.names names own.row in

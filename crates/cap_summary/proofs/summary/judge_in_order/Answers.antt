@@ -1,6 +1,6 @@
 use Rattle.std.specs.Prelude.{List, ◌≡◌}
 use Rattle.cap_summary.proofs.{Agreeing.agree_same, Resolving.from_first, on_ok_weaker, subst, sym, ◌∙◌}
-use Rattle.cap_summary.specs.{LastSteps.AgreeAfter, Stands.summed_up, State, Step, start_state}
+use Rattle.cap_summary.specs.{Positions.AgreeAfter, Stands.summed_up, State, Step, start_state}
 use Rattle.cap_summary.proofs.summary.judge_in_order.Goals as goal
 
 pub returns-clause-found : goal.returns-clause-found

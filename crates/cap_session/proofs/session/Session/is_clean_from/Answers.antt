@@ -3,7 +3,7 @@ use Rattle.cap_machine.specs.declared.step.Step.{Step}
 use Rattle.cap_machine.specs.Steps.{steps}
 use Rattle.cap_machine.specs.State.{start_state}
 use Rattle.cap_machine.specs.Check.{check}
-use Rattle.cap_summary.specs.LineAsks.{has_any}
+use Rattle.cap_summary.specs.Asks.{has_any}
 use Rattle.cap_summary.specs.Stands.{summed_up}
 use Rattle.cap_session.specs.Session.{SessionState}
 use Rattle.cap_session.proofs.FoundText.{none_found}

@@ -1,10 +1,9 @@
-use Rattle.cap_summary.specs.{Names.has_cell}
 use Rattle.cap_summary.proofs.ask.Ask.through.Goals as goal
 
 pub returns-clause-names : goal.returns-clause-names
 returns-clause-names c = λ names row own.
     let seen = c.view.ensures.names names own row in
-    c.settled.ensures.names (has_cell names) (elim c.match-view.branch [
+    c.settled.ensures.names names (elim c.match-view.branch [
       | goal.in-Same w ↦ rw w.pid-is (rw w.in-Same.is at seen)
       | goal.in-Executed w ↦ rw w.pid-is (rw w.in-Executed.is at seen)
       | goal.in-Made w ↦ rw w.pid-is (rw w.in-Made.is at seen)

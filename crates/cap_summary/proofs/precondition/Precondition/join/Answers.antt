@@ -1,8 +1,8 @@
-use Rattle.std.specs.Prelude.{Some, false, refl, ◌≡◌}
-use Rattle.cap_summary.proofs.{or-true, precondition.Precondition.join.Goals.In_ok-refuse_all_after, sym, ◌∙◌}
+use Rattle.std.specs.Prelude.{false, refl, ◌||◌, ◌≡◌}
+use Rattle.cap_summary.proofs.{ap, or-true, precondition.Precondition.join.Goals.In_ok-refuse_all_after, sym, ◌∙◌}
 use Rattle.cap_summary.proofs.Pulling.{always_asked, asked_joined, met_by_asks, met_joined}
-use Rattle.cap_summary.specs.{Keys.cells_of, Preconditions.AreAskedByBoth, Preconditions.is_met}
-use Rattle.cap_summary.specs.declared.precondition.Precondition.{Precondition}
+use Rattle.cap_summary.specs.{Asks.any_holds, Keys.cells_of, declared.precondition.Precondition.Precondition}
+use Rattle.cap_summary.specs.Preconditions.{IsPulledBack, IsUnionOf, is_met}
 use Rattle.cap_summary.proofs.precondition.Precondition.join.Goals as goal
 
 pub returns-then-self : goal.returns-then-self
@@ -18,18 +18,33 @@ returns-then-self c =
 pub returns-in_default : goal.returns-in_default
 returns-in_default c =
     let all = c.always-in_default.ensures in
-    let one = rw (c.in_default.is, c.as_slice-own.ensures.value, c.as_slice-theirs.ensures.value) at
-    c.in_ok-asks.ensures in
-    always_asked c.args.first.now c.args.self.now c.args.later.now c.always-in_default.result all.met all.settled
-    all.each all.nothing (λ s. met_by_asks c.args.first.now c.args.self.now c.args.later.now s (one s))
+    let one = rw (c.in_default.is, c.as_slice-theirs.ensures.value) at c.in_ok-back.ensures in
+    let own = c.args.self.now in
+    always_asked c.args.first.now own c.args.later.now c.always-in_default.result all.met all.settled all.each
+    all.nothing (λ s. met_by_asks c.args.first.now own c.args.later.now s
+    (rw (one s) (or-true (any_holds (cells_of s) own.asks.items))))
+
+pub returns-in_default-2 : goal.returns-in_default-2
+returns-in_default-2 c =
+    let all = c.always-in_default-2.ensures in
+    let first = c.args.first.now in
+    let own = c.args.self.now in
+    let later = c.args.later.now in
+    let back : IsPulledBack first later.asks.items c.in-Some.back.items =
+    (rw (c.in-Some.is, c.as_slice-theirs.ensures.value) at c.in_ok-back.ensures).1 in
+    let one = rw (c.in_default-2.is, c.as_slice-own.ensures.value, c.deref.ensures.value) at c.in_ok-asks.ensures in
+    always_asked first own later c.always-in_default-2.result all.met all.settled all.each all.nothing (λ s.
+    met_by_asks first own later s (ap (λ r. any_holds (cells_of s) own.asks.items || r) (sym (back.holds s)) ∙ one s))
 
 -- the asks of both beside the refusals of this one
 abbrev before : In_ok-refuse_all_after → Precondition
-before c = record { certain = false; asks = c.in-Some.asks; refusals = c.extend_from_slice.new.self }
+before c = record { certain = false; asks = c.in-Some-2.asks; refusals = c.extend_from_slice.new.self }
 
-asked : (c : In_ok-refuse_all_after)
-    → AreAskedByBoth c.args.first.now c.args.self.now.asks.items c.args.later.now.asks.items (Some c.in-Some.asks)
-asked c = rw (c.in-Some.is, c.as_slice-own.ensures.value, c.as_slice-theirs.ensures.value) at c.in_ok-asks.ensures
+back : (c : In_ok-refuse_all_after) → IsPulledBack c.args.first.now c.args.later.now.asks.items c.in-Some.back.items
+back c = (rw (c.in-Some.is, c.as_slice-theirs.ensures.value) at c.in_ok-back.ensures).1
+
+asked : (c : In_ok-refuse_all_after) → IsUnionOf c.args.self.now.asks.items c.in-Some.back.items c.in-Some-2.asks.items
+asked c = rw (c.in-Some-2.is, c.as_slice-own.ensures.value, c.deref.ensures.value) at c.in_ok-asks.ensures
 
 same : (c : In_ok-refuse_all_after) → c.extend_from_slice.new.self.items ≡ c.args.self.now.refusals.items
 same c = rw (c.in_ok-refusals.ensures.items, c.as_slice.ensures.value) at c.in_ok-extend_from_slice.ensures.items
@@ -41,8 +56,8 @@ returns-then-both c =
     let own = c.args.self.now in
     let later = c.args.later.now in
     always_asked c.args.first.now own later c.always-then-both.result all.met all.settled all.each all.nothing (λ s. sym
-    (met_joined c.args.first.now own later (before at) c.refuse_all_after.new.self c.deref.result.now c.if-self.false
-    c.if-later.false refl (asked at) (same at) c.deref.ensures.value c.in_ok-refuse_all_after.ensures.more s)
+    (met_joined c.args.first.now own later (before at) c.refuse_all_after.new.self c.deref-2.result.now c.if-self.false
+    c.if-later.false refl _ (back at) (asked at) (same at) c.deref-2.ensures.value c.in_ok-refuse_all_after.ensures.more s)
     ∙ rw c.if-both.true refl)
 
 pub returns : goal.returns
@@ -50,5 +65,5 @@ returns c =
     let at = (goal.at.returns c).In_ok-refuse_all_after in
     let refused = c.in_ok-refuse_all_after.ensures in
     asked_joined c.args.first.now c.args.self.now c.args.later.now (before at) c.refuse_all_after.new.self
-    c.deref.result.now c.if-self.false c.if-later.false refl (asked at) (same at) c.deref.ensures.value refused.more
+    c.deref-2.result.now c.if-self.false c.if-later.false refl _ (back at) (asked at) (same at) c.deref-2.ensures.value refused.more
     c.if-both.false refused.asks

@@ -1,5 +1,5 @@
-use Rattle.cap_summary.specs.{Asks.holds, Asks.AskWithin, Asks.AreWithin, Names.Names, Names.has_cell}
-use Rattle.cap_summary.specs.{Preconditions.IfNamed, Preconditions.IsWithMore}
+use Rattle.cap_summary.specs.{Asks.AreWithin, Asks.AskWithin, Asks.holds, Names.Names}
+use Rattle.cap_summary.specs.Preconditions.{IfNamed, IsWithMore}
 use Rattle.cap_summary.proofs.{sym, Meeting.nothing_more, Meeting.now_certain, Meeting.more_asks, Meeting.next_more}
 use Rattle.cap_summary.proofs.{Meeting.named_then, Meeting.read_all}
 use Rattle.cap_summary.proofs.precondition.Precondition.put_after.Goals as goal
@@ -12,8 +12,8 @@ loop-ask-preserved c =
     let ask = c.ask-item.result in
     let pre = c.loop-ask.self in
     let pulled = c.before-in-loop-ask.ensures in
-    let one = λ (names : Names). AskWithin (has_cell names) ask in
-    let all = λ (names : Names). AreWithin (has_cell names) asks in
+    let one = λ (names : Names). AskWithin names ask in
+    let all = λ (names : Names). AreWithin names asks in
     let next : IsWithMore first (λ cells. holds cells ask) (IfNamed one) 1 0 pre c.match-before.self =
     elim c.match-before.branch [
       | goal.in-Always w ↦ rw w.self-is (now_certain first (λ cells. holds cells ask) (IfNamed one) 1 0 pre
@@ -25,5 +25,5 @@ loop-ask-preserved c =
           (rw w.in-Where.is at pulled.names))
     ] in
     next_more first holds asks i ask (IfNamed all) (IfNamed one) i 0 1 0 _ pre _ c.loop-ask-test.true c.ask-item.is
-    (named_then all one (λ names. read_all (AskWithin (has_cell names)) asks i ask c.loop-ask-test.true c.ask-item.is))
+    (named_then all one (λ names. read_all (AskWithin names) asks i ask c.loop-ask-test.true c.ask-item.is))
     c.loop-ask.invariant next

@@ -1,7 +1,6 @@
-use Rattle.cap_summary.specs.{Asks.AreWithin, Asks.any_holds, Names.has_cell, take}
-use Rattle.cap_summary.specs.Preconditions.{IfNamed, IsWithMore}
+use Rattle.cap_summary.specs.{Asks.AreWithin, Asks.any_holds, Preconditions.IfNamed, Preconditions.IsWithMore, take}
 use Rattle.cap_summary.proofs.precondition.Precondition.put_after.Given as goal
 
 abbrev pub invariant-loop-ask : goal.invariant-loop-ask
 invariant-loop-ask l = IsWithMore l.first (λ cells. any_holds cells (take l.ask-index l.asks))
-    (IfNamed (λ names. AreWithin (has_cell names) l.asks)) l.ask-index 0 l.initial.self l.self
+    (IfNamed (λ names. AreWithin names l.asks)) l.ask-index 0 l.initial.self l.self

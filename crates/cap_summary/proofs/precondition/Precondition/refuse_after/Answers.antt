@@ -1,4 +1,4 @@
-use Rattle.cap_summary.proofs.{Together.none_holds, Together.one_certain, ap, sym, ◌∙◌}
+use Rattle.cap_summary.proofs.{ap, sym, ◌∙◌}
 use Rattle.cap_summary.proofs.Meeting.{always_wrongful, never_wrongful, nothing_more, now_certain, one_refusal}
 use Rattle.cap_summary.proofs.precondition.Precondition.refuse_after.Goals.{After-is_certain}
 use Rattle.cap_summary.specs.{All, Asks.IsOpen, Asks.asks_of, Preconditions.IsPulledBack, not}
@@ -19,7 +19,7 @@ pub returns-then-is_certain-clause-more : goal.returns-then-is_certain-clause-mo
 returns-then-is_certain-clause-more c =
     let at = (goal.at.returns-then-is_certain-clause-more c).After-is_certain in
     nothing_more _ _ _ _ _ c.args.self.now (never_wrongful _ c.args.self.now c.args.unless.now c.in-Some.asks (back at) (can at)
-    (one_certain (asks_of c.in-Some.asks) (asks_of c.in-Some.asks) (sym c.is_certain.ensures ∙ c.if-is_certain.true)))
+    (c.is_certain.ensures.always c.if-is_certain.true))
 
 pub returns-then-is_empty-clause-more : goal.returns-then-is_empty-clause-more
 returns-then-is_empty-clause-more c =
@@ -32,4 +32,4 @@ returns-in_ok-push-clause-more c =
     let at = (goal.at.returns-in_ok-push-clause-more c).After-is_certain in
     one_refusal _ c.args.self.now c.args.unless.now c.in-Some.asks (back at) (can at) c.push.new.self c.in_ok-push.ensures.items
     (rw c.as_slice.ensures.asks at (sym c.is_empty.ensures ∙ c.if-is_empty.false))
-    (none_holds (asks_of c.in-Some.asks) (sym c.is_certain.ensures ∙ c.if-is_certain.false))
+    (c.is_certain.ensures.fails c.if-is_certain.false)

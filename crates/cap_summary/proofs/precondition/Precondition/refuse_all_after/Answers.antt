@@ -1,11 +1,11 @@
 use Rattle.cap_summary.proofs.{Meeting.next_more, Meeting.read_all, ◌∙◌}
 use Rattle.std.specs.Prelude.{All}
-use Rattle.cap_summary.specs.{Asks.AreWithin, Asks.asks_of, Names.has_cell, declared.up_to_three.UpToThree.UpToThree}
+use Rattle.cap_summary.specs.{Asks.AreWithin, Asks.asks_of, declared.up_to_three.UpToThree.UpToThree}
 use Rattle.cap_summary.specs.Preconditions.{IfNamed, IsRefusalSaid, Open, Saying, Within, is_wrongful}
 use Rattle.cap_summary.proofs.precondition.Precondition.refuse_all_after.Goals as goal
 
 named : (refusal : UpToThree) (said : Saying) → IsRefusalSaid said refusal
-    → IfNamed (λ names. AreWithin (has_cell names) (asks_of refusal)) said
+    → IfNamed (λ names. AreWithin names (asks_of refusal)) said
 named refusal (Within names) is = is
 named refusal Open is = tt
 
@@ -14,7 +14,7 @@ loop-refusal-preserved c =
     let one = c.refusal-item.result in
     let refusals = c.args.refusals.now in record {
       more = next_more c.args.first.now is_wrongful refusals c.loop-refusal.refusal-index one
-          (λ said. All (IsRefusalSaid said) refusals) (IfNamed (λ names. AreWithin (has_cell names) (asks_of one)))
+          (λ said. All (IsRefusalSaid said) refusals) (IfNamed (λ names. AreWithin names (asks_of one)))
           _ _ 1 1 _ _ _ c.loop-refusal-test.true c.refusal-item.is (λ said all. named one said (read_all
           (IsRefusalSaid said) _ _ _ c.loop-refusal-test.true c.refusal-item.is all)) c.loop-refusal.invariant.more
           c.in_ok-refuse_after.ensures.more;

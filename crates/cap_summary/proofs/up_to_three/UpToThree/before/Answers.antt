@@ -1,5 +1,5 @@
 use Rattle.std.specs.Prelude.{◌≡◌, ◌<◌, ◌++◌, [], List, length, get_or, take}
-use Rattle.cap_summary.specs.{Asks.asks_of, Asks.IsOpen, declared.ask.Ask.Ask, Preconditions.IsPulledBack}
+use Rattle.cap_summary.specs.{Asks.IsOpen, Asks.asks_of, Preconditions.IsPulledBack, declared.ask.Ask.Ask}
 use Rattle.cap_summary.proofs.{sym, append-nil, All-push, Pulling.pulled_never, Pulling.pulled_put}
 use Rattle.cap_summary.proofs.up_to_three.UpToThree.before.Goals as goal
 

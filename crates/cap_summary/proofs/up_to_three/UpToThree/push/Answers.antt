@@ -1,7 +1,7 @@
 use Rattle.std.specs.Prelude.{List, [], length, min, refl, set, take, ℕ, ◌++◌, ◌+◌, ◌<◌, ◌∷◌, ◌≡◌}
 use Rattle.cap_summary.proofs.{All-push, arith, list_any-append, ◌∙◌}
 use Rattle.std.proofs.{lemmas.Grind.take-set_at, lemmas.List.length-take}
-use Rattle.cap_summary.specs.{Asks.AskWithin, Asks.asks_of, Asks.holds, Names.has_cell}
+use Rattle.cap_summary.specs.Asks.{AskWithin, asks_of, holds}
 use Rattle.cap_summary.proofs.up_to_three.UpToThree.push.Goals as goal
 
 one_put : {X : Type 0} (xs : List X) (n : ℕ) (x : X) → length xs ≡ 3 → length (take (min n 3) xs) < 3
@@ -21,4 +21,4 @@ returns-clause-holds c = λ cells. rw (returns-clause-asks c)
 
 pub returns-clause-names : goal.returns-clause-names
 returns-clause-names c = λ names all own. rw (returns-clause-asks c)
-    (All-push (AskWithin (has_cell names)) (asks_of c.args.self.now) c.args.ask all own)
+    (All-push (AskWithin names) (asks_of c.args.self.now) c.args.ask all own)
