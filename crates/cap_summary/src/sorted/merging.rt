@@ -69,11 +69,11 @@ fn first_key<L, R>(lefts: &[(u32, L)], rights: &[(u32, R)]) -> Option<u32>
     ensures one { IfSome result (λ key. (is_some (found lefts.now key) || is_some (found rights.now key)) ≡ true) }
     ensures end { IfNone result ((lefts.now ≡ []) × (rights.now ≡ [])) }
 {
-    match (lefts.first(), rights.first()) {
-        (Some(a), Some(b)) => Some(a.0.min(b.0)),
-        (Some(a), None) => Some(a.0),
-        (None, Some(b)) => Some(b.0),
-        (None, None) => None,
+    match (lefts, rights) {
+        ([a, ..], [b, ..]) if b.0 < a.0 => Some(b.0),
+        ([a, ..], _) => Some(a.0),
+        ([], [b, ..]) => Some(b.0),
+        ([], []) => None,
     }
 }
 
