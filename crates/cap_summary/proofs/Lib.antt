@@ -7,8 +7,6 @@ pub mod Uniting
 pub mod SortedFound
 pub mod SortedMerging
 pub mod SortedSetting
-pub mod RowsComposed
-pub mod LineRows
 pub mod LineAsking
 pub mod LineListed
 pub mod LineNamed

@@ -53,8 +53,7 @@ abbrev pub state_before : Before → State
 state_before (Before.At start) = start_state start.now
 state_before (Before.After' p before effect) = state_of (changed effect.now (cells_of (state_before before)))
 
--- ---- which cells and modes no line of a segment touches, as far as is known: those that have no row, or a row of
--- their own process that neither lists nor closes them; a cell that came back by a fork is touched
+-- ---- what no line of a segment touches, as far as is known; a cell that came back by a fork is touched
 abbrev pub is_own : DefaultCells → Bool
 is_own DefaultCells.Own = true
 is_own _ = false

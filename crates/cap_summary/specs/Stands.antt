@@ -1,4 +1,4 @@
--- What a summary stands for. And that each part is shorter than its node.
+-- What a summary stands for.
 use Rattle.std.specs.Prelude.{length, max, ◌≡◌, ◌≤◌}
 use Rattle.std.proofs.Common.{arith, length-append}
 use Rattle.cap_summary.specs.{Kept.HasParts, Kept.content_steps, List, Step, declared.summary.Summary.Summary}
@@ -12,6 +12,7 @@ summed_up z = z.node.value.steps
 pub record Stands (z : Summary) (t : List Step) : Type 0 where
   pub steps : summed_up z ≡ t
 
+-- each part is shorter than its node
 pub deep_le_length : (c : Content) → HasParts c → max (deep-Content c) 0 ≤ length (content_steps c)
 deep_le_length (Content.Run run) has = omega arith
 deep_le_length (Content.Both a b) has = omega (arith, length-append a.value.steps b.value.steps)
