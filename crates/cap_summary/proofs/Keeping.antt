@@ -6,7 +6,7 @@ use Rattle.cap_summary.specs.{Sorted.KeysRise, Sorted.Rises, Sorted.RisesFrom, S
 use Rattle.cap_summary.specs.{IfNone, IfSome, Knows.Knows, Option, Sorted.found, is_some, length, nat_le, true}
 use Rattle.cap_summary.specs.Kept.{IsKept, IsLarge, IsWithin, ListsMany, NameOrRefuseMany, is_one, room, these}
 use Rattle.cap_summary.specs.declared.node.Content.TheVariants.{Both, Run}
-use Rattle.cap_summary.specs.Names.{AreAmong, IsListedWithin, IsRowWithin, ListWithin, RowsWithin, names_in}
+use Rattle.cap_summary.specs.Names.{AreAmong, IsListedWithin, IsRowWithin, ListWithin, Names, names_in}
 use Rattle.cap_summary.proofs.{Knowing.refused_parts, SortedFound.found_below, SortedFound.rises_again, inl, nat_tests}
 use Rattle.cap_summary.proofs.{All-head, All-tail, FewAsks.few_asks, FewKeys.few_keys, arith, eq-eqb, eqb-true, inr}
 use Rattle.cap_summary.proofs.Naming.{asks_among, effect_among, first_among, second_among}
@@ -18,6 +18,9 @@ use Rattle.std.proofs.Math.Nat.{mul-le-mul_right}
 of_some : {V : Type 0} (o : Option V) (P : V → Type 0) (b : Bool) → ((v : V) → P v → b ≡ true) → IfSome o P
     → is_some o ≡ true → b ≡ true
 of_some o P b so all is = grind (arith, so, all, is)
+
+abbrev RowsWithin : Names → List (ℕ × Row) → Type 0
+RowsWithin names rows = (p : ℕ) → IfSome (found rows p) (IsRowWithin names p)
 
 rises : {V : Type 0} (entries : List (ℕ × V)) → KeysRise entries → Rises entries
 rises entries rise = rises_again 0 entries (λ i d lt. omega arith) rise

@@ -6,7 +6,7 @@ use Rattle.cap_summary.proofs.{ap, ◌∙◌}
 use Rattle.cap_summary.specs.{Cell, declared.base.Base.Base, declared.effect.Effect.Effect, declared.value.Value.Value}
 use Rattle.cap_summary.specs.{Keys.mode_cell, Keys.read, declared.effect.Row.Row, declared.key.Key.Key, option_map_or}
 use Rattle.cap_summary.specs.{Closed, Keys.Cells, LineEffect, Outside, Sorted.found, Unsure, all, fds_spelled, list_any}
-use Rattle.cap_summary.specs.Names.{EffectWithin, IsListedWithin, IsRowWithin, Names, RowWithin, RowsWithin}
+use Rattle.cap_summary.specs.Names.{EffectWithin, IsListedWithin, IsRowWithin, Names, RowWithin}
 use Rattle.cap_summary.specs.Effects.{IsStarted, base_cell, cell_in, changed, is_cell, line_after, own_row, row_cell}
 
 one_more : (cells : Cells) (v : Value) (b any : Bool) (o : Option Value)
@@ -101,7 +101,7 @@ module _ (first : Effect) (q fd : ℕ) (value : Value) (mid new : List (ℕ × R
           ∙ ap (λ b. cond b (read cells value) (changed first cells p k)) (sym (other_cell p k is))
 
   pub set_names : (names : Names) → names.pids q ≡ true → IsListedWithin names fd value → EffectWithin names first
-      → RowsWithin names new
+      → (p : ℕ) → IfSome (found new p) (IsRowWithin names p)
   set_names names pid here within p = rw (put p) (by (p == q) refl)
     where
       old : RowWithin names row

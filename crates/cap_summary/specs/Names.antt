@@ -78,11 +78,8 @@ pub record IsRowWithin (names : Names) (p : ℕ) (r : Row) : Type 0 where
   pub pid : names.pids p ≡ true
   pub row : RowWithin names r
 
-abbrev pub RowsWithin : Names → List (ℕ × Row) → Type 0
-RowsWithin names rows = (p : ℕ) → IfSome (found rows p) (IsRowWithin names p)
-
 abbrev pub EffectWithin : Names → Effect → Type 0
-EffectWithin names effect = RowsWithin names effect.rows
+EffectWithin names effect = (p : ℕ) → IfSome (found effect.rows p) (IsRowWithin names p)
 
 -- the rows of some processes: those that a later segment reads
 abbrev pub ReadWithin : Names → Names → Effect → Type 0

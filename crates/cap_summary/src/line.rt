@@ -2,10 +2,9 @@
 
 ghost use Rattle.std.specs.Prelude.{IfOk, None, OnOk, Some, false, if◌then◌else◌, true, ℕ, ◌==◌, ◌≡◌, ◌⊎◌};
 ghost use Rattle.cap_summary.specs.{All, Keys.{Cells, read}, Sorted.found, declared.key.Key.Key, fds_spelled, is_child};
-ghost use Rattle.cap_summary.specs.Names.{EffectWithin, IsListedWithin, LineWithin, ListWithin, RowWithin, RowsWithin};
-ghost use Rattle.cap_summary.specs.Effects.{IsStarted, LineLeaves, cell_in, changed, is_cell, is_touched, leaves};
-ghost use Rattle.cap_summary.specs.Effects.{leaves_in, line_after, own_row, row_cell, row_leaves, sets_cells};
-ghost use Rattle.cap_summary.specs.{Names.Names, unwrap_or};
+ghost use Rattle.cap_summary.specs.Names.{EffectWithin, IsListedWithin, LineWithin, ListWithin, Names, RowWithin};
+ghost use Rattle.cap_summary.specs.Effects.{IsStarted, LineLeaves, changed, is_cell, is_touched, leaves, line_after};
+ghost use Rattle.cap_summary.specs.{Effects.{own_row, row_cell, row_leaves, sets_cells}, unwrap_or};
 
 use crate::{
     Base, DefaultCells, Effect, Key, Map, Passing, Row, SharedOp, SharedRow, Value, cell_of_mode,
@@ -93,34 +92,6 @@ fn take_row(alloc: Global, rows: &mut Map<SharedRow>, pid: Pid) -> Result<Shared
     }
 }
 
-/// Puts the row that a line of process `me` makes of it, and of a child that the line makes what a fork makes of that
-/// row.
-fn put_rows(
-    alloc: Global,
-    rows: &mut Map<SharedRow>,
-    me: Pid,
-    line: &LineEffect<'_>,
-    row: Row,
-) -> Result<(), NoMemory>
-    ensures cells { OnOk result ((cells : Cells) (p : ℕ) (k : Key) → cell_in cells (found rows.new p) p k
-        ≡ (if is_touched line.now me p then row_cell cells me row k else cell_in cells (found rows.old p) p k)) }
-    ensures leaves { OnOk result ((p : ℕ) (k : Key) → leaves_in (found rows.new p) k ≡ true
-        → ((is_touched line.now me p ≡ false) × (leaves_in (found rows.old p) k ≡ true))
-        ⊎ ((p ≡ me) × (is_child line.now me ≡ false) × (row_leaves row k ≡ true))) }
-    ensures names { OnOk result ((names : Names) → LineWithin names me line.now → RowWithin names row
-        → RowsWithin names rows.old → RowsWithin names rows.new) }
-{
-    match line {
-        LineEffect::Fork(child) => rows.set(*child, SharedRow::new(alloc, row.forked(me)?)?),
-        LineEffect::ForkAs(child, _) => {
-            let forked = row.forked(me)?;
-            rows.set(me, SharedRow::new(alloc, row)?)?;
-            rows.set(*child, SharedRow::new(alloc, forked)?)
-        }
-        _ => rows.set(me, SharedRow::new(alloc, row)?),
-    }
-}
-
 impl Effect {
     /// Nothing is touched.
     pub fn empty(alloc: Global) -> Effect
@@ -150,6 +121,35 @@ impl Effect {
         self.rows.set(pid, new)
     }
 
+    /// Puts the row that a line of process `me` makes of it, and of a child that the line makes what a fork makes of that
+    /// row.
+    fn put_rows(
+        &mut self,
+        alloc: Global,
+        me: Pid,
+        line: &LineEffect<'_>,
+        row: Row,
+    ) -> Result<(), NoMemory>
+        ensures cells { OnOk result ((cells : Cells) (p : ℕ) (k : Key) → changed self.new cells p k
+            ≡ (if is_touched line.now me p then row_cell cells me row k else changed self.old cells p k)) }
+        ensures leaves { OnOk result ((p : ℕ) (k : Key) → leaves self.new p k ≡ true
+            → ((is_touched line.now me p ≡ false) × (leaves self.old p k ≡ true))
+            ⊎ ((p ≡ me) × (is_child line.now me ≡ false) × (row_leaves row k ≡ true))) }
+        ensures names { OnOk result ((names : Names) → LineWithin names me line.now → RowWithin names row
+            → EffectWithin names self.old → EffectWithin names self.new) }
+    {
+        self.size = None;
+        match line {
+            LineEffect::Fork(pid) => self.rows.set(*pid, SharedRow::new(alloc, row.forked(me)?)?),
+            LineEffect::ForkAs(child, _) => {
+                let forked = row.forked(me)?;
+                self.rows.set(me, SharedRow::new(alloc, row)?)?;
+                self.rows.set(*child, SharedRow::new(alloc, forked)?)
+            }
+            _ => self.rows.set(me, SharedRow::new(alloc, row)?),
+        }
+    }
+
     /// The effect of this segment and then a line of process `me`, which sets no cell to a value of its own. The rows of
     /// that process and of a child that it makes are made anew.
     fn push_row(&mut self, alloc: Global, me: Pid, line: &LineEffect<'_>) -> Result<(), NoMemory>
@@ -163,8 +163,7 @@ impl Effect {
     {
         let own = Row::of_line(alloc, me, line)?;
         let row = self.row_after(alloc, me, &own)?;
-        self.size = None;
-        put_rows(alloc, &mut self.rows, me, line, row)
+        self.put_rows(alloc, me, line, row)
     }
 
     /// The effect of this segment and then a line of process `me`, in place. After an `Err` it is only to be dropped.
