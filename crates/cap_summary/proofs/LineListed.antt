@@ -5,15 +5,19 @@ use Rattle.cap_summary.proofs.{All-head, All-tail, Bor, eq-eqb, eqb-true, list_a
 use Rattle.cap_summary.proofs.{ap, ◌∙◌}
 use Rattle.cap_summary.specs.{Cell, declared.base.Base.Base, declared.effect.Effect.Effect, declared.value.Value.Value}
 use Rattle.cap_summary.specs.{Keys.mode_cell, Keys.read, declared.effect.Row.Row, declared.key.Key.Key, option_map_or}
-use Rattle.cap_summary.specs.{Closed, Keys.Cells, LineEffect, Outside, Sorted.found, Unsure, all, fds_spelled, list_any}
+use Rattle.cap_summary.specs.{Closed, Keys.Cells, LineEffect, Outside, started, Sorted.found, Unsure, all, fds_spelled, list_any}
 use Rattle.cap_summary.specs.Names.{EffectWithin, IsListedWithin, IsRowWithin, Names, RowWithin}
-use Rattle.cap_summary.specs.Effects.{IsStarted, base_cell, cell_in, changed, is_cell, line_after, own_row, row_cell}
+use Rattle.cap_summary.specs.Effects.{base_cell, cell_in, changed, is_cell, line_after, own_row, row_cell}
 
 one_more : (cells : Cells) (v : Value) (b any : Bool) (o : Option Value)
     → option_map_or (read cells) o Closed ≡ cond any (read cells v) Closed
     → option_map_or (read cells) (cond b (Some v) o) Closed ≡ cond (any || b) (read cells v) Closed
 one_more cells v true any o is = rw (or-true any) refl
 one_more cells v false any o is = rw (or-false any) is
+
+-- the cells that a process holds once it has started with these descriptors
+abbrev pub IsStarted : List ℕ → List (ℕ × Value) → Type 0
+IsStarted fds listed = (cells : Cells) (f : ℕ) → option_map_or (read cells) (found listed f) Closed ≡ started fds f
 
 -- one more descriptor that a process starts with
 pub started_more : (fds : List ℕ) (i : ℕ) (listed more : List (ℕ × Value)) → i < length fds

@@ -1,6 +1,6 @@
 -- What becomes of each cell over a segment, whatever the cells before it: the transfer function of the segment.
-use Rattle.std.specs.Prelude.{List, None, Option, Some, false, if◌then◌else◌, is_none, not, true, ◌&&◌, ◌==◌, ◌||◌, ◌≡◌}
-use Rattle.cap_summary.specs.{Bool, Cell, State, Unknown, [], applied, follows, nat_le, started, stays, touched, turns}
+use Rattle.std.specs.Prelude.{None, Option, Some, false, if◌then◌else◌, is_none, not, true, ◌&&◌, ◌==◌, ◌||◌, ◌≡◌}
+use Rattle.cap_summary.specs.{Bool, Cell, State, Unknown, [], applied, follows, nat_le, stays, touched, turns}
 use Rattle.cap_summary.specs.{Closed, Keys.cells_of, Keys.mode_cell, Keys.state_of, Turn, exec, kept, option_map_or, ℕ}
 use Rattle.cap_summary.specs.{Keys.Cells, Keys.read, LineEffect, Sorted.found, effect_touch, effect_turn, start_state}
 use Rattle.cap_summary.specs.declared.{base.Passing.Passing, before.Before.Before, effect.Effect.Effect, effect.Row.Row}
@@ -106,7 +106,3 @@ sets_cells _ = false
 abbrev pub is_cell : ℕ → ℕ → ℕ → Key → Bool
 is_cell q f p Key.Mode = false
 is_cell q f p (Key.Fd g) = p == q && g == f
-
--- the cells that a process holds once it has started with these descriptors
-abbrev pub IsStarted : List ℕ → List (ℕ × Value) → Type 0
-IsStarted fds listed = (cells : Cells) (f : ℕ) → option_map_or (read cells) (found listed f) Closed ≡ started fds f

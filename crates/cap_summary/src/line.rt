@@ -1,10 +1,10 @@
 //! The effect of one line.
 
-ghost use Rattle.std.specs.Prelude.{IfOk, None, OnOk, Some, false, if◌then◌else◌, true, ℕ, ◌==◌, ◌≡◌, ◌⊎◌};
+ghost use Rattle.std.specs.Prelude.{IfOk, None, OnOk, Some, false, if◌then◌else◌, true, unwrap_or, ℕ, ◌==◌, ◌≡◌, ◌⊎◌};
 ghost use Rattle.cap_summary.specs.{All, Keys.{Cells, read}, Sorted.found, declared.key.Key.Key, fds_spelled, is_child};
 ghost use Rattle.cap_summary.specs.Names.{EffectWithin, IsListedWithin, LineWithin, ListWithin, Names, RowWithin};
-ghost use Rattle.cap_summary.specs.Effects.{IsStarted, LineLeaves, changed, is_cell, is_touched, leaves, line_after};
-ghost use Rattle.cap_summary.specs.{Effects.{own_row, row_cell, row_leaves, sets_cells}, unwrap_or};
+ghost use Rattle.cap_summary.specs.{Closed, Effects.{LineLeaves, changed, is_cell, is_touched, leaves, line_after}};
+ghost use Rattle.cap_summary.specs.{Effects.{own_row, row_cell, row_leaves, sets_cells}, option_map_or, started};
 
 use crate::{
     Base, DefaultCells, Effect, Key, Map, Passing, Row, SharedOp, SharedRow, Value, cell_of_mode,
@@ -17,7 +17,8 @@ use std::alloc::Global;
 
 /// The descriptors that a process starts with, as they are spelled.
 fn started_cells(alloc: Global, spelled: &[u8]) -> Result<Map<Value>, NoMemory>
-    ensures cells { IfOk result (λ listed. IsStarted (fds_spelled spelled.now) listed) }
+    ensures cells { IfOk result (λ listed. (cells : Cells) (f : ℕ)
+        → option_map_or (read cells) (found listed f) Closed ≡ started (fds_spelled spelled.now) f) }
     ensures names { IfOk result (λ listed. (names : Names) → All (λ f. names.fds f ≡ true) (fds_spelled spelled.now)
         → ListWithin names listed) }
 {
