@@ -189,7 +189,9 @@ impl Precondition {
         let Some(back) = pulled_asks(alloc, first, theirs)? else {
             return Ok(Precondition::always(alloc));
         };
-        let Some(asks) = unite(alloc, own, &back)? else {
+        let before = back.as_slice();
+        let united = unite(alloc, own, before)?;
+        let Some(asks) = united else {
             return Ok(Precondition::always(alloc));
         };
         let room = self.refusals.len().saturating_add(later.refusals.len());
