@@ -1,15 +1,14 @@
 -- States that agree on the processes that make a later step.
-use Rattle.std.specs.Prelude.{Bool, List, OnOk, Result, false, if◌then◌else◌, length, map, refl, true, ◌++◌, ◌+◌, ◌<◌}
-use Rattle.std.specs.Prelude.{[], ℕ, ◌∷◌, ◌≡◌, ◌≤◌}
+use Rattle.std.specs.Prelude.{OnOk, Result, false, if◌then◌else◌, length, refl, true, ◌++◌, ◌+◌, ◌<◌, ◌∷◌, ◌≡◌, ◌≤◌}
+use Rattle.cap_summary.specs.{Positions.AreNoted, declared.judging.Asked.Asked, declared.last_steps.LastSteps.LastSteps}
+use Rattle.cap_summary.specs.{Check, Finding, Positions.AgreeAfter, Positions.AreJudged, Positions.last_of, requirement}
+use Rattle.cap_summary.specs.{Answer, Found, State, Touch, Unknown, [], applied, ended, follows, given, listed, touched}
+use Rattle.cap_summary.specs.{Bool, Cell, Item, List, Mode, Step, kept, map, said, stays, taken, touch, turns, ℕ}
 use Rattle.cap_summary.proofs.{Resolving.found_outside, Resolving.found_parts, Resolving.same_beyond, ap, length-append}
 use Rattle.cap_summary.proofs.{arith, cases_lt, ends_in_turn, fun_ext, inl, inr, ne_eqb, on_ok_weaker, subst, sym, ◌∙◌}
 use Rattle.cap_trace.specs.Call.{Call}
 use Rattle.cap_machine.specs.{History.turned, Judge.judged, State.with_listed, Touch.call_turn, Touch.item_turn}
 use Rattle.cap_machine.proofs.NamedFds.{named_sources}
-use Rattle.cap_summary.specs.{Check, declared.judging.Asked.Asked, declared.last_steps.LastSteps.LastSteps, requirement}
-use Rattle.cap_summary.specs.{Answer, Finding, Found, State, Touch, Unknown, applied, ended, follows, listed, touched}
-use Rattle.cap_summary.specs.{Cell, Item, Mode, Step, given, kept, said, stays, taken, touch, turns}
-use Rattle.cap_summary.specs.Positions.{AgreeAfter, AreJudged, AreNoted, last_of}
 
 -- ---- steps whose processes are noted
 

@@ -1,14 +1,13 @@
 -- Where something is found.
-use Rattle.std.specs.Prelude.{All, Bool, List, false, get_or, length, not, refl, take, true, ◌++◌, ◌+◌, ◌<◌, ◌==◌, ◌∷◌}
-use Rattle.std.specs.Prelude.{[], ℕ, ◌≡◌, ◌≤◌}
-use Rattle.cap_summary.proofs.{All-head, All-push, length-append, list_any-append, list_any_more, nat_tests, or-false}
-use Rattle.cap_summary.proofs.{ap, arith, or-true, subst, sym, ◌∙◌}
+use Rattle.std.specs.Prelude.{Bool, List, false, get_or, length, refl, take, true, ◌++◌, ◌+◌, ◌<◌, ◌==◌, ◌∷◌, ◌≡◌, ◌≤◌}
 use Rattle.cap_summary.specs.{declared.precondition.Precondition.Precondition, declared.up_to_three.UpToThree.UpToThree}
 use Rattle.cap_summary.specs.{Effects.changed, Names.EffectWithin, declared.ask.Ask.Ask, declared.effect.Effect.Effect}
-use Rattle.cap_summary.specs.{Global, Keys.Cells, Keys.cells_of, Names.Names, State, Vec, list_any}
+use Rattle.cap_summary.specs.{All, Global, Keys.Cells, Keys.cells_of, Names.Names, State, Vec, [], list_any, not, ℕ}
 use Rattle.cap_summary.specs.Preconditions.{IfNamed, IsPulledBack, IsRefusalSaid, IsSaid, IsWithMore, Open, is_wrongful}
 use Rattle.cap_summary.specs.Preconditions.{Saying, Within, is_met}
 use Rattle.cap_summary.specs.Asks.{AreWithin, AskWithin, IsOpen, any_holds, asks_of, holds}
+use Rattle.cap_summary.proofs.{All-head, All-push, length-append, list_any-append, list_any_more, nat_tests, or-false}
+use Rattle.cap_summary.proofs.{ap, arith, or-true, subst, sym, ◌∙◌}
 
 -- one of some asks holds in some state, where there are any and it depends on the state
 one_somewhere : (asks : List Ask) → All IsOpen asks → (length asks == 0) ≡ false

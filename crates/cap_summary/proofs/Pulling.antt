@@ -1,17 +1,16 @@
 -- Asks of a later segment, pulled back through the effect of a first one.
-use Rattle.std.specs.Prelude.{All, List, None, Option, Some, drop, false, get_or, length, refl, take, true, ◌++◌, ◌||◌}
-use Rattle.std.specs.Prelude.{[], ℕ, ◌+◌, ◌<◌, ◌∷◌, ◌≡◌}
-use Rattle.cap_summary.proofs.{All-append, All-head, All-push, length-append, list_any-append, or-false, sym, take_more}
-use Rattle.cap_summary.proofs.{ap, arith, subst, ◌∙◌}
-use Rattle.cap_summary.proofs.Uniting.{all_left, all_right, drop_here, rises_put, rises_without}
-use Rattle.cap_summary.specs.{Effects.changed, Effects.row_cell, Effects.row_leaves, Keys.cells_of, Names.EffectWithin}
-use Rattle.cap_summary.specs.{Global, Keys.Cells, Names.Names, Sorted.found, State, Vec, list_any}
+use Rattle.std.specs.Prelude.{Option, drop, false, get_or, length, refl, take, true, ◌++◌, ◌+◌, ◌<◌, ◌||◌, ◌∷◌, ◌≡◌}
+use Rattle.cap_summary.specs.{Asks.AskWithin, Effects.changed, Effects.row_cell, Effects.row_leaves, Names.EffectWithin}
+use Rattle.cap_summary.specs.{Asks.IsOpen, Asks.Rises, Asks.any_holds, Global, Keys.cells_of, Names.Names, Sorted.found}
+use Rattle.cap_summary.specs.{All, Asks.holds, Asks.place, Keys.Cells, List, None, Some, State, Vec, [], list_any, ℕ}
 use Rattle.cap_summary.specs.Preconditions.{ArePulledBack, IsAskedByBoth, IsPulledBack, IsRefusalSaid, is_wrongful}
 use Rattle.cap_summary.specs.Preconditions.{AllSaid, IfNamed, IsSettled, IsUnion, IsUnionOf, IsWithMore, asks_size}
 use Rattle.cap_summary.specs.Preconditions.{IsSaid, Open, Saying, Within, is_met}
 use Rattle.cap_summary.specs.declared.{precondition.Precondition.Precondition, up_to_three.UpToThree.UpToThree}
 use Rattle.cap_summary.specs.declared.{ask.Ask.Ask, effect.Effect.Effect, effect.Row.Row, key.Key.Key}
-use Rattle.cap_summary.specs.Asks.{AskWithin, IsOpen, Rises, any_holds, holds, place}
+use Rattle.cap_summary.proofs.{All-append, All-head, All-push, length-append, list_any-append, or-false, sym, take_more}
+use Rattle.cap_summary.proofs.{ap, arith, subst, ◌∙◌}
+use Rattle.cap_summary.proofs.Uniting.{all_left, all_right, drop_here, rises_put, rises_without}
 
 -- ---- a cell that the first segment leaves
 pub row_left : (cells : Cells) (p : ℕ) (row : Row) (k : Key) → row_leaves row k ≡ true → row_cell cells p row k ≡ cells p k

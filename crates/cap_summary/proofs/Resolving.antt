@@ -1,15 +1,14 @@
 -- Findings of segments, one after the other.
-use Rattle.std.specs.Prelude.{Bool, List, [], cond, drop, false, filter, get_or, length, nat_le, refl, take, true, ◌&&◌}
-use Rattle.std.specs.Prelude.{All, map, not, ℕ, ◌*◌, ◌++◌, ◌+◌, ◌-◌, ◌/◌, ◌<◌, ◌∷◌, ◌≡◌, ◌≤◌, ◌⊎◌}
+use Rattle.std.specs.Prelude.{filter, get_or, length, nat_le, ◌&&◌, ◌*◌, ◌++◌, ◌+◌, ◌-◌, ◌/◌, ◌<◌, ◌∷◌, ◌≡◌, ◌≤◌, ◌⊎◌}
+use Rattle.cap_summary.specs.{Asks.has_any, Finding, Found, State, check, declared.judging.Asked.Asked, ended, found_at}
+use Rattle.cap_summary.specs.{All, Bool, List, Step, [], cond, drop, false, later, map, not, refl, said, take, true, ℕ}
+use Rattle.cap_summary.specs.Positions.{AllOrMany, found_in, is_at, said_in, within}
 use Rattle.cap_summary.proofs.{and-false, append_assoc, checks_in_turn, length-append, length-take-le, take-append-drop}
 use Rattle.cap_summary.proofs.{All-head, All-tail, append-nil, cases_lt, length-map, map-append, take_all, take_more}
 use Rattle.cap_summary.proofs.{ap, arith, inl, inr, sym, ◌∙◌}
 use Rattle.std.proofs.{Common.length-take, lemmas.List.Elements.filter-append, lemmas.List.Filters.length-filter_both}
 use Rattle.std.proofs.{Common.add_assoc, Common.le-leb, lemmas.Bool.lt-leb, lemmas.List.Elements.All-map}
 use Rattle.cap_machine.proofs.Positions.{positions_within}
-use Rattle.cap_summary.specs.{Asks.has_any, Finding, Found, State, check, declared.judging.Asked.Asked, ended, found_at}
-use Rattle.cap_summary.specs.{Step, later, said}
-use Rattle.cap_summary.specs.Positions.{AllOrMany, found_in, is_at, said_in, within}
 
 later-later : (m n : ℕ) (xs : List Found) → map (later m) (map (later n) xs) ≡ map (later (m + n)) xs
 later-later m n [] = refl

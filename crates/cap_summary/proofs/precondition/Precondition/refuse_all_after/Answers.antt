@@ -1,6 +1,5 @@
 use Rattle.cap_summary.proofs.{Meeting.next_more, Meeting.read_all, ◌∙◌}
-use Rattle.std.specs.Prelude.{All}
-use Rattle.cap_summary.specs.{Asks.AreWithin, Asks.asks_of, declared.up_to_three.UpToThree.UpToThree}
+use Rattle.cap_summary.specs.{All, Asks.AreWithin, Asks.asks_of, declared.up_to_three.UpToThree.UpToThree}
 use Rattle.cap_summary.specs.Preconditions.{IfNamed, IsRefusalSaid, Open, Saying, Within, is_wrongful}
 use Rattle.cap_summary.proofs.precondition.Precondition.refuse_all_after.Goals as goal
 
