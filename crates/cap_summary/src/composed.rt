@@ -182,15 +182,17 @@ impl Combine for Composing<'_> {
                 None => Ok(None),
             };
         };
-        if left.is_none() && right.get().reads_only(pid) {
+        let second = right.get();
+        if left.is_none() && second.reads_only(pid) {
             return Ok(Some(right.clone()?));
         }
         if let Some(old) = &self.old {
             if let Some(row) = old.row(pid, left, right) {
-                return Ok(Some(row.clone()?));
+                let kept = row.clone()?;
+                return Ok(Some(kept));
             }
         }
-        let row = self.first.row_after(alloc, pid, right.get())?;
+        let row = self.first.row_after(alloc, pid, second)?;
         Ok(Some(SharedRow::new(alloc, row)?))
     }
 

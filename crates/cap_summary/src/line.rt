@@ -122,6 +122,19 @@ impl Effect {
         self.rows.set(pid, new)
     }
 
+    /// Gives a process this row.
+    fn put(&mut self, alloc: Global, pid: Pid, row: Row) -> Result<(), NoMemory>
+        ensures cells { OnOk result ((cells : Cells) (p : ℕ) (k : Key) → changed self.new cells p k
+            ≡ (if p == pid then row_cell cells pid row k else changed self.old cells p k)) }
+        ensures leaves { OnOk result ((p : ℕ) (k : Key) → leaves self.new p k
+            ≡ (if p == pid then row_leaves row k else leaves self.old p k)) }
+        ensures names { OnOk result ((names : Names) → names.pids pid ≡ true → RowWithin names row
+            → EffectWithin names self.old → EffectWithin names self.new) }
+    {
+        self.size = None;
+        self.rows.set(pid, SharedRow::new(alloc, row)?)
+    }
+
     /// Puts the row that a line of process `me` makes of it, and of a child that the line makes what a fork makes of that
     /// row.
     fn put_rows(
@@ -139,15 +152,14 @@ impl Effect {
         ensures names { OnOk result ((names : Names) → LineWithin names me line.now → RowWithin names row
             → EffectWithin names self.old → EffectWithin names self.new) }
     {
-        self.size = None;
         match line {
-            LineEffect::Fork(pid) => self.rows.set(*pid, SharedRow::new(alloc, row.forked(me)?)?),
+            LineEffect::Fork(child) => self.put(alloc, *child, row.forked(me)?),
             LineEffect::ForkAs(child, _) => {
                 let forked = row.forked(me)?;
-                self.rows.set(me, SharedRow::new(alloc, row)?)?;
-                self.rows.set(*child, SharedRow::new(alloc, forked)?)
+                self.put(alloc, me, row)?;
+                self.put(alloc, *child, forked)
             }
-            _ => self.rows.set(me, SharedRow::new(alloc, row)?),
+            _ => self.put(alloc, me, row),
         }
     }
 
