@@ -6,7 +6,6 @@ pub mod Together
 pub mod Uniting
 pub mod SortedFound
 pub mod SortedMerging
-pub mod SortedSetting
 pub mod LineAsking
 pub mod LineListed
 pub mod LineNamed

@@ -1,8 +1,8 @@
 -- A table that is made of two, key by key.
-use Rattle.cap_summary.proofs.{ap, arith, cases_lt, eq-eqb, inl, inr, nat_tests, ne_eqb, sym, ◌∙◌}
-use Rattle.cap_summary.proofs.SortedFound.{found_below}
-use Rattle.std.specs.Prelude.{List, None, Some, [], eqb, if◌then◌else◌, true, ℕ, ◌++◌, ◌+◌, ◌<◌, ◌||◌, ◌∷◌, ◌≡◌, ◌≤◌}
-use Rattle.cap_summary.specs.{Option, Sorted.Rises, Sorted.RisesFrom, Sorted.found, is_some, option_or, refl}
+use Rattle.std.specs.Prelude.{List, None, Option, Some, [], if◌then◌else◌, is_some, ◌++◌, ◌+◌, ◌<◌, ◌||◌, ◌∷◌, ◌≡◌, ◌≤◌}
+use Rattle.cap_summary.proofs.{SortedFound.RisesFrom-lower, SortedFound.found_below, arith, cases_lt, eq-eqb, nat_tests}
+use Rattle.cap_summary.specs.{Sorted.Rises, Sorted.RisesFrom, Sorted.found, eqb, option_or, refl, true, ℕ}
+use Rattle.cap_summary.proofs.{ap, inl, inr, ne_eqb, sym, ◌∙◌}
 use mathlib.Core.Bool.{false≢true}
 
 -- a key from the bound on isn't found
@@ -41,11 +41,6 @@ pub record IsMergedTo {L R O : Type 0} (gives : ℕ → Option L → Option R �
   pub merged_rises : Rises merged
   pub merged_below : EndsBelow bound merged
   pub given : (k : ℕ) → k < bound → gives k (found left k) (found right k) (found merged k)
-
--- keys that rise from a bound rise from a lower one too
-pub RisesFrom-lower : {V : Type 0} (a b : ℕ) (l : List (ℕ × V)) → a ≤ b → RisesFrom b l → RisesFrom a l
-RisesFrom-lower a b [] le rises = tt
-RisesFrom-lower a b ((k, v) ∷ rest) le rises = (omega (arith, rises.0), rises.1)
 
 pub Rises-from : {V : Type 0} (b : ℕ) (l : List (ℕ × V)) → RisesFrom b l → Rises l
 Rises-from b l rises = RisesFrom-lower 0 b l (omega arith) rises

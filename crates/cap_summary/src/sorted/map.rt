@@ -112,7 +112,7 @@ impl<V: Drop> Map<V> {
 
     /// Puts a value at a key, in place of the one that was there. A new entry moves those above it, and takes room for
     /// itself alone, since most maps stay as they are for long. If it fails the map stays as it was.
-    #[tactic(auto, using(crate::proofs::SortedSetting::puts))]
+    #[tactic(auto, using(crate::proofs::SortedFound::puts))]
     pub fn set(&mut self, key: u32, value: V) -> Result<(), NoMemory>
         ensures ok { OnOk result ((k : ℕ) → found self.new k ≡ (if k == key then Some value else found self.old k)) }
         ensures err { OnErr result (self.new ≡ self.old) }
@@ -130,7 +130,7 @@ impl<V: Drop> Map<V> {
     }
 
     /// Takes out the value at a key, if there is one. Those above it move, and the room stays. Allocates nothing.
-    #[tactic(auto, using(crate::proofs::SortedSetting::takes))]
+    #[tactic(auto, using(crate::proofs::SortedFound::takes))]
     pub fn remove(&mut self, key: u32) -> Option<V>
         ensures value { result ≡ found self.old key }
         ensures others { (k : ℕ) → (k == key) ≡ false → found self.new k ≡ found self.old k }
