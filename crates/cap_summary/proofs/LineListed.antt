@@ -3,9 +3,10 @@ use Rattle.std.specs.Prelude.{All, Bool, IfSome, List, None, Option, Some, cond,
 use Rattle.std.specs.Prelude.{[], eqb, take, true, ℕ, ◌&&◌, ◌+◌, ◌<◌, ◌==◌, ◌||◌, ◌∷◌, ◌≡◌}
 use Rattle.cap_summary.proofs.{All-head, All-tail, Bor, eq-eqb, eqb-true, list_any_more, or-false, or-true, subst, sym}
 use Rattle.cap_summary.proofs.{ap, ◌∙◌}
+use Rattle.cap_summary.specs.{started}
 use Rattle.cap_summary.specs.{Cell, declared.base.Base.Base, declared.effect.Effect.Effect, declared.value.Value.Value}
 use Rattle.cap_summary.specs.{Keys.mode_cell, Keys.read, declared.effect.Row.Row, declared.key.Key.Key, option_map_or}
-use Rattle.cap_summary.specs.{Closed, Keys.Cells, LineEffect, Outside, started, Sorted.found, Unsure, all, fds_spelled, list_any}
+use Rattle.cap_summary.specs.{Closed, Keys.Cells, LineEffect, Outside, Sorted.found, Unsure, all, fds_spelled, list_any}
 use Rattle.cap_summary.specs.Names.{EffectWithin, IsListedWithin, IsRowWithin, Names, RowWithin}
 use Rattle.cap_summary.specs.Effects.{base_cell, cell_in, changed, is_cell, line_after, own_row, row_cell}
 

@@ -41,7 +41,8 @@ other n (Answer.Made m) = Answer.Made n
 other n (Answer.Pair m k) = Answer.Pair n n
 other n (Answer.Fault e) = Answer.Fault e
 
-either_alike : (a b : Bool) (m : ℕ) (t u t' u' : Touch) → is_told (cond (a || b) ResultKind.Fd ResultKind.Count) (Answer.Made m) ≡ false
+either_alike : (a b : Bool) (m : ℕ) (t u t' u' : Touch)
+    → is_told (cond (a || b) ResultKind.Fd ResultKind.Count) (Answer.Made m) ≡ false
     → cond a t (cond b u kept) ≡ cond a t' (cond b u' kept)
 either_alike true b m t u t' u' none = absurd cc
 either_alike false true m t u t' u' none = absurd cc

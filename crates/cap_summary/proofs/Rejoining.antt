@@ -81,8 +81,8 @@ pub rejoined_asks : (side : Side) (first second was old : Known) (kept : Similar
     → AreAlike kept was (part_at side first second) → (side ≡ Side.Left → kept.precondition ≡ true → kept.effect ≡ true)
     → kept.precondition ≡ true
     → IsAskedByBoth first.effect.value first.precondition.value second.precondition.value old.precondition.value
-rejoined_asks Side.Left first second was old kept joined alike effect is = first_asks was.effect.value first.effect.value
-    was.precondition.value first.precondition.value second.precondition.value old.precondition.value
+rejoined_asks Side.Left first second was old kept joined alike effect is = first_asks was.effect.value
+    first.effect.value was.precondition.value first.precondition.value second.precondition.value old.precondition.value
     (alike.effect (effect refl is)) (alike.precondition is) joined.precondition
 rejoined_asks Side.Right first second was old kept joined alike effect is = second_asks first.effect.value
     first.precondition.value was.precondition.value second.precondition.value old.precondition.value

@@ -7,7 +7,7 @@ use Rattle.cap_summary.specs.Effects.{cell_in, changed, is_from, leaves, leaves_
 use Rattle.cap_summary.specs.Names.{IsListedWithin, IsRowWithin, Names, ReadWithin}
 use Rattle.cap_summary.specs.declared.effect.{Effect.Effect, Row.Row}
 
--- what is listed for a descriptor: what the second segment lists, by the cells before the first, or what the first hands on
+-- what is listed for a descriptor: what the second lists, by the cells before the first, or what the first one hands on
 pub record IsHandedSo (first : Effect) (passing : Passing) (closed_from : Option ℕ) (f : ℕ)
     (listed handed new : Option Value) : Type 0 where
   pub cells : (cells : Cells) (rest : Cell) → option_map_or (read cells) new rest

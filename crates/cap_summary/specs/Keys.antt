@@ -1,6 +1,6 @@
--- Cells by key, and the values that rows list for them. A key is a descriptor, or the mode, which is kept as a cell too.
-use Rattle.std.specs.Prelude.{All, Bool, List, length, min, true, ◌+◌, ◌∷◌, ◌≡◌}
-use Rattle.cap_summary.specs.{Cell, Clear, Closed, Held, Mode, Sorted.KeysRise, State, Unknown, [], applied, exec, none, ℕ}
+-- Cells by key, and the values that rows list for them. A key is a descriptor, or the mode, which is kept as a cell.
+use Rattle.std.specs.Prelude.{All, Bool, List, [], length, min, true, ℕ, ◌+◌, ◌∷◌, ◌≡◌}
+use Rattle.cap_summary.specs.{Cell, Clear, Closed, Held, Mode, Sorted.KeysRise, State, Unknown, applied, exec, none}
 use Rattle.cap_summary.specs.declared.{effect.Row.Row, key.Key.Key, value.Value.Value, view.Seen.Seen}
 
 -- the cell for each mode

@@ -5,7 +5,7 @@ use Rattle.cap_summary.specs.{Check, IfSome, Requirement, ResultKind, args_name,
 use Rattle.cap_summary.specs.declared.{base.DefaultCells.DefaultCells, effect.Row.Row, key.Key.Key, value.Value.Value}
 use Rattle.cap_summary.specs.{All, Answer, Checks, Entry, Item, List, Option, Step, false, fds_of, listed, true, ℕ}
 
--- ---- lines: a descriptor of an answer, by the kind of answer that the call has; the count that read(2) answers is none
+-- ---- lines: a descriptor of an answer, by the kind of answer that the call has; a count, as of read(2), is none
 abbrev pub answers_fd : ℕ → ResultKind → Answer → Bool
 answers_fd f ResultKind.Fd (Answer.Made n) = f == n
 answers_fd f (ResultKind.Same g) (Answer.Made n) = f == n

@@ -135,8 +135,8 @@ impl Effect {
         self.rows.set(pid, SharedRow::new(alloc, row)?)
     }
 
-    /// Puts the row that a line of process `me` makes of it, and of a child that the line makes what a fork makes of that
-    /// row.
+    /// Puts the row that a line of process `me` makes of it, and of a child that the line makes what a fork makes of
+    /// that row.
     fn put_rows(
         &mut self,
         alloc: Global,

@@ -19,7 +19,8 @@ returns-clause-few c = λ kept.
     let all : List Found = check s (summed_up c.args.summary.now) in
     let n : ℕ = length (summed_up c.args.summary.now) in
     let len : c.len-most.result ≡ n = rw c.deref.ensures at c.len-most.ensures.count in
-    let is : c.is_kept.result ≡ is_some c.args.summary.now.node.value.known = rw c.deref-2.ensures at c.is_kept.ensures in
+    let is : c.is_kept.result ≡ is_some c.args.summary.now.node.value.known =
+    rw c.deref-2.ensures at c.is_kept.ensures in
     elim c.if-is_kept.branch [
       | goal.then-is_kept+in_ok-resolve+else-len-most w ↦
           let found : List Found = w.resolve.new.report.found.items in

@@ -69,7 +69,8 @@ module _ (first : Effect) (new : List (ℕ × Row)) (line : LineEffect) (me : �
       → ((cells : Cells) (k : Key) → row_cell cells me row k ≡ row_cell (changed first cells) me own k)
       → ((cells : Cells) (p : ℕ) (k : Key) → cell_in cells (found new p) p k
       ≡ cond (is_touched line me p) (row_cell cells me row k) (changed first cells p k))
-      → (cells : Cells) (p : ℕ) (k : Key) → cell_in cells (found new p) p k ≡ line_after line me (changed first cells) p k
+      → (cells : Cells) (p : ℕ) (k : Key)
+      → cell_in cells (found new p) p k ≡ line_after line me (changed first cells) p k
   then_line of_line after put cells p k = put cells p k ∙ by (is_touched line me p) refl
     where
       by : (b : Bool) → is_touched line me p ≡ b
@@ -94,8 +95,8 @@ module _ (first : Effect) (new : List (ℕ × Row)) (line : LineEffect) (me : �
   ]
 
 pub returns-clause-cells : goal.returns-clause-cells
-returns-clause-cells c = on_ok_weaker c.put_rows.result (then_line c.args.self.now c.put_rows.new.self.rows c.args.line.now
-    c.args.me c.in_ok-own.own c.in_ok-row.row c.in_ok-own.ensures.cells c.in_ok-row.ensures.cells)
+returns-clause-cells c = on_ok_weaker c.put_rows.result (then_line c.args.self.now c.put_rows.new.self.rows
+    c.args.line.now c.args.me c.in_ok-own.own c.in_ok-row.row c.in_ok-own.ensures.cells c.in_ok-row.ensures.cells)
     c.put_rows.ensures.cells
 
 pub returns-clause-leaves : goal.returns-clause-leaves
