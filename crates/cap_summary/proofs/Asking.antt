@@ -14,7 +14,6 @@ pub stands : (r : ℕ) (cells : Cells) (p : ℕ) (k : Key) → cells_of (chosen 
 stands r cells p Key.Mode = refl
 stands r cells p (Key.Fd f) = refl
 
--- ---- cells that lack none of the rights
 -- at a descriptor they pass by their kind
 pub sure_by_kind : (a : Ask) (c : Cell) → has_kind a.kinds c ≡ passes a (holding a.rights c)
 sure_by_kind a c = grind (arith, own_rights a.rights)

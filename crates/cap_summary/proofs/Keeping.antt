@@ -8,7 +8,7 @@ use Rattle.cap_summary.specs.Kept.{IsKept, IsLarge, IsWithin, ListsMany, NameOrR
 use Rattle.cap_summary.specs.declared.node.Content.TheVariants.{Both, Run}
 use Rattle.cap_summary.specs.Names.{AreAmong, IsListedWithin, IsRowWithin, ListWithin, Names, names_in}
 use Rattle.cap_summary.proofs.{Knowing.refused_parts, SortedFound.found_below, SortedFound.rises_again, inl, nat_tests}
-use Rattle.cap_summary.proofs.{All-head, All-tail, FewAsks.few_asks, FewKeys.few_keys, arith, eq-eqb, eqb-true, inr}
+use Rattle.cap_summary.proofs.{All-head, All-tail, FewAsks.few_asks, FewAsks.few_keys, arith, eq-eqb, eqb-true, inr}
 use Rattle.cap_summary.proofs.Naming.{asks_among, effect_among, first_among, second_among}
 use Rattle.std.proofs.Math.Nat.{mul-le-mul_right}
 

@@ -1,21 +1,20 @@
 -- What a summary says after one more step, or one more segment.
-use Rattle.std.specs.Prelude.{List, [], false, get_or, if◌then◌else◌, length, map, take, ◌++◌, ◌+◌, ◌<◌, ◌||◌, ◌∷◌, ◌≡◌}
-use Rattle.std.specs.Prelude.{true, ℕ, ◌≤◌}
-use Rattle.cap_summary.proofs.{LineAsking.has_any-append, checks_in_turn, checks_more, ends_in_turn, length-append, sym}
-use Rattle.cap_summary.proofs.{All-append, All-cons, All-nil, ap, arith, fun_ext, map-append, take_more, ◌∙◌}
-use Rattle.cap_summary.proofs.Naming.{asks_among, effect_among, first_among, second_among}
+use Rattle.std.specs.Prelude.{List, false, get_or, if◌then◌else◌, length, map, take, true, ℕ, ◌++◌, ◌+◌, ◌<◌, ◌||◌, ◌∷◌}
+use Rattle.std.specs.Prelude.{[], ◌≡◌, ◌≤◌}
+use Rattle.cap_machine.proofs.{Turns.ends_more}
 use Rattle.cap_machine.specs.{Code.Table.step_after, History.turned}
-use Rattle.cap_machine.proofs.Turns.{ends_more}
-use Rattle.cap_summary.specs.{Composing.IsJoined, Effects.leaves, Keys.Cells, Keys.cells_of, Keys.mode_cell}
-use Rattle.cap_summary.specs.{Knows.Knows, Knows.Says, Knows.StepsLeave, LineEffect, Rc, State, Step, Turn, check}
-use Rattle.cap_summary.specs.{effect_touch, effect_turn, ended, found_at, kept, later, requirement, said, stays, touch}
-use Rattle.cap_summary.specs.{touched, turn, values}
+use Rattle.cap_summary.proofs.{LineAsking.has_any-append, Naming.effect_among, Naming.first_among, Naming.second_among}
+use Rattle.cap_summary.proofs.{All-append, Naming.asks_among, checks_in_turn, checks_more, ends_in_turn, length-append}
+use Rattle.cap_summary.proofs.{All-cons, All-nil, ap, arith, fun_ext, map-append, sym, take_more, ◌∙◌}
+use Rattle.cap_summary.specs.{Rc, declared.line_asks.LineAsks.LineAsks, declared.precondition.Precondition.Precondition}
+use Rattle.cap_summary.specs.{declared.effect.Effect.Effect, declared.key.Key.Key, declared.known.Known.Known, found_at}
+use Rattle.cap_summary.specs.{Composing.IsJoined, Effects.LineLeaves, Effects.line_after, Effects.turned_cell, touched}
+use Rattle.cap_summary.specs.{Asks.asked_holds, Asks.is_refusal, Asks.refusals_in, Knows.StepsLeave, Names.EffectWithin}
+use Rattle.cap_summary.specs.{Asks.AreWithin, Effects.changed, Effects.leaves, Keys.mode_cell, Names.LineWithin, values}
+use Rattle.cap_summary.specs.{Asks.asks_in, Asks.has_any, Asks.refused, Keys.cells_of, Names.AreAmong, Names.names_in}
+use Rattle.cap_summary.specs.{Keys.Cells, Knows.Knows, Knows.Says, Names.Names, effect_touch, effect_turn, requirement}
+use Rattle.cap_summary.specs.{LineEffect, State, Step, Turn, check, ended, kept, later, said, stays, touch, turn}
 use Rattle.cap_summary.specs.Preconditions.{AllSaid, IfNamed, IsWithMore, Open, Saying, Within, asks_size, is_met}
-use Rattle.cap_summary.specs.Effects.{LineLeaves, changed, line_after, turned_cell}
-use Rattle.cap_summary.specs.declared.{key.Key.Key, line_asks.LineAsks.LineAsks, precondition.Precondition.Precondition}
-use Rattle.cap_summary.specs.declared.{effect.Effect.Effect, known.Known.Known}
-use Rattle.cap_summary.specs.Asks.{AreWithin, asked_holds, asks_in, has_any, is_refusal, refusals_in, refused}
-use Rattle.cap_summary.specs.Names.{AreAmong, EffectWithin, LineWithin, Names, names_in}
 
 -- one more item of a run
 pub one_more : {X Z : Type 0} (run : List (Rc X Z)) (i : ℕ) (x : Rc X Z) → i < length run → x ≡ get_or run i x

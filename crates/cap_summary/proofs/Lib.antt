@@ -8,7 +8,6 @@ pub mod SortedFound
 pub mod SortedMerging
 pub mod LineAsking
 pub mod LineListed
-pub mod LineNamed
 pub mod Naming
 pub mod Meeting
 pub mod Pulling
@@ -21,7 +20,6 @@ pub mod OwnCells
 pub mod Resolving
 pub mod Walks
 pub mod Explained
-pub mod FewKeys
 pub mod FewAsks
 pub mod Judged
 pub mod Agreeing

@@ -29,7 +29,6 @@ module _ (asks kept : List Ask) (i : ℕ) (ask : Ask) (within : i < length asks)
   pub kept_more : (before : Ask) → place before ≡ place ask → Rises ((kept ++ before ∷ []) ++ drop (i + 1) asks)
   kept_more before same = rises_put 0 kept (drop (i + 1) asks) ask before same whole
 
--- ---- none so far
 pub pulled_none : (first : Effect) (back : List Ask) → back ≡ [] → IsPulledBack first [] back
 pulled_none first back none = record {
   holds = λ s. rw none refl;
@@ -37,7 +36,6 @@ pulled_none first back none = record {
   few = rw none (omega arith);
 }
 
--- ---- one more
 module _ (first : Effect) (asks : List Ask) (i : ℕ) (ask : Ask) (front rest : List Ask) (within : i < length asks)
     (is : ask ≡ get_or asks i ask) (so_far : IsPulledBack first (take i asks) (front ++ rest)) where
   one_more : take (i + 1) asks ≡ take i asks ++ ask ∷ []
@@ -90,7 +88,6 @@ module _ (first : Effect) (asks : List Ask) (i : ℕ) (ask : Ask) (front rest : 
       few = omega (arith, counted, so_far.few, length-append {A = Ask});
     }
 
--- ---- the asks of both segments
 -- the two lists of what is pulled back become one
 pub pulled_united : (first : Effect) (later kept moved : List Ask) (united : Option (Vec Ask Global))
     → IsPulledBack first later (kept ++ moved) → IsUnion kept moved united → ArePulledBack first later united
@@ -107,7 +104,6 @@ pulled_united first later kept moved (Some united) back near = (
   },
 )
 
--- ---- both segments
 -- something is found in every state
 pub always_asked : (first : Effect) (own later both : Precondition) → ((cells : Cells) → is_met cells both ≡ true)
     → IsSettled both → ((said : Saying) → AllSaid said both) → asks_size both ≡ 0

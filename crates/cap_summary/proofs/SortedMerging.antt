@@ -30,8 +30,7 @@ found-append ((j, u) ∷ rest) k v key =
     let later = found-append rest k v key in
     grind (arith, nat_tests, later)
 
--- up to a bound: what is given for each key below it is in the merged table, and the rest of both tables has what
--- they have from it on
+-- up to a bound the merged table has what is given for each key, and from it on the rest of both has what they have
 pub record IsMergedTo {L R O : Type 0} (gives : ℕ → Option L → Option R → Option O → Type 0) (left lefts : List (ℕ × L))
     (right rights : List (ℕ × R)) (merged : List (ℕ × O)) (bound : ℕ) : Type 0 where
   pub left_rises : RisesFrom bound lefts
