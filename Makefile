@@ -7,14 +7,14 @@
 #                   of the rules, each allocation refused in turn, hostile input, the recorder and the annotator; that all
 #                   wrong bodies fit the code, and that scripts can be read
 #   make examples   the same scripts alone, with ./capcheck
-#   make wrong      the wrong bodies that the gate leaves out (tests/wrong), each of which the prover must refuse: this takes hours
+#   make wrong      the wrong bodies that the gate leaves out (tests/wrong): the prover must refuse each, and it takes hours
 #   make refusals   each call that takes memory, with each of its allocations refused
 #   make bench      times the program, and reading alone, on traces of a million lines beside `wc -l`, and sessions, denials and
 #                   limits beside a check; where valgrind is installed, counts instructions too
 #   make install    puts the program, its tools, manual pages and completions under PREFIX (default /usr/local)
 #   make uninstall  takes them away
 
-# This is read by GNU make alone, which skips what stands up to `endif`. To other makes the first line is a target.
+# This is read by GNU make alone, which skips the lines up to `endif`. To other makes the first line is a target.
 ifdef :
 .error This Makefile is for GNU make: run gmake, or make where that is GNU make.
 endif
@@ -35,7 +35,7 @@ all: capcheck
 # Ends with a sentence where one of these programs isn't there.
 needs = @for it in $(1); do command -v $$it >/dev/null || { echo "make $@ needs $$it, which isn't on the path (README.md)." >&2; exit 1; }; done
 
-# `rt run` proves the program and all that it stands on, builds it and runs it, here to tell its version.
+# `rt run` proves the program and the crates below it, builds it and runs it, here to tell its version.
 capcheck: $(SOURCES)
 	$(call needs,python3 $(RT))
 	cd crates/capcheck && $(RT) run -- --version >/dev/null

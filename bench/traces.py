@@ -29,7 +29,7 @@ def quiet(lines):
 
 
 def loud(lines):
-    """The same, where each twentieth line is a finding."""
+    """A trace as that of `quiet`, where each twentieth line is a finding."""
     rng = random.Random(2)
     out = quiet(lines)
     for at in range(64, len(out), 20):
@@ -275,7 +275,7 @@ def chain(lines):
 
 
 def long_chain(lines):
-    """The same with 1,000 forks."""
+    """As `chain`, with 1,000 forks."""
     return descents(lines, 1_000, "close({})")
 
 
@@ -285,7 +285,7 @@ def narrowing(lines):
 
 
 def long_narrowing(lines):
-    """The same with 1,000 forks."""
+    """As `narrowing`, with 1,000 forks."""
     return descents(lines, 1_000, "cap_rights_limit({},CAP_READ)")
 
 
@@ -304,7 +304,7 @@ def limits(lines):
 
 
 def heirs(lines):
-    """The same as `socketpairs`, where the process that forks has forty descriptors above the first 64."""
+    """As `socketpairs`, where the process that forks has forty descriptors above the first 64."""
     made = socketpairs(lines)
     return (made[:1] + [f"1 socket(0) RET {100 + fd}" for fd in range(40)] + made[1:])[:lines]
 

@@ -521,7 +521,7 @@ def written(session, typed, mode):
     put(f"wrote {many(len(session.lines), 'line')}")
 
 
-@command("help [COMMAND]", "prints what there is, or what COMMAND does")
+@command("help [COMMAND]", "prints the commands, or what COMMAND does")
 def print_help(session, typed):
     if typed and typed.decode("latin-1") not in COMMANDS:
         raise Mistake(f"there is no command {shown(typed)}")

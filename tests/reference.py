@@ -803,7 +803,7 @@ def chain_of_cell(profile, start, lines, owner, place):
 
 
 def chain_of_mode(start, lines, owner):
-    """The same for the mode of a process."""
+    """As `chain_of_cell`, for the mode of a process."""
     named = []
     for at in range(len(lines), 0, -1):
         pid, name, _, answer = lines[at - 1]

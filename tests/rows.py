@@ -46,7 +46,7 @@ def run(words, given=b""):
 
 
 def on_terminal(words, given=b"", output=subprocess.PIPE):
-    """The same, where standard error is a terminal."""
+    """Runs the program where standard error is a terminal."""
     ours, theirs = pty.openpty()
     with subprocess.Popen([PROGRAM] + words, stdin=subprocess.PIPE, stdout=output, stderr=theirs) as program:
         os.close(theirs)

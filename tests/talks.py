@@ -136,7 +136,7 @@ with Talk(program, "edit", "examples/server.trace") as talk:
     talk.hear("12\nok 11\n")
     talk.end(0)
 
-name = "a line that is too long is refused as soon as it is, and once"
+name = "a line that is too long is refused as soon as it is too long, and once"
 with Talk(program, "edit", "examples/server.trace") as talk:
     talk.say("x" * 1056)
     talk.hear_nothing()

@@ -343,7 +343,7 @@ def history():
 
 
 def without_readline():
-    """The same session where Python has no readline."""
+    """A session where Python has no readline."""
     os.makedirs(os.path.join(FOLDER.name, "bare"), exist_ok=True)
     file_of("bare/readline.py", "raise ImportError\n")
     bare = os.path.join(FOLDER.name, "bare")

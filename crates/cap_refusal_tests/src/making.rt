@@ -8,7 +8,7 @@ use cap_trace::{Answer, Fds, Item, Line, LineFault, Path, fds_of};
 use std::alloc::Global;
 use std::test::Fail;
 
-/// A part of a line, as it is made.
+/// A part of a line.
 #[derive(Clone, Copy)]
 pub enum Made {
     Path,

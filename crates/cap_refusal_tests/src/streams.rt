@@ -253,7 +253,7 @@ impl<S: Source> Source for Marked<S> {
     }
 }
 
-/// Whether a script with marks inside is answered as is right, or as it is where its first command lacks memory.
+/// Whether a script with marks inside is answered rightly, or as where its first command lacks memory.
 fn deletes(alloc: Global) -> bool {
     let mut trace = Pieces::new(TRACE, 64, 0);
     let mut script = Marked {

@@ -27,7 +27,7 @@ use Rattle.cap_session.proofs.LimitScripts.{process_accepted, makers_accepted}
 
 -- ---- all insertions are made
 
--- each line of a script is read as it is
+-- each line of a script is read as that line
 abbrev ReadsBack : List ScriptLine → Type 0
 ReadsBack [] = Unit {0}
 ReadsBack (comment words ∷ more) = ReadsBack more

@@ -15,7 +15,7 @@ abbrev pub ok_text : ℕ → List ℕ
 ok_text count = codes "ok " ++ decimal count ++ line_feed
 
 -- Each insertion is accepted, up to the first for which the trace is full or memory ran out; comments are skipped.
--- Where none is refused, the trace that is left has each line at its position, as it is read again.
+-- Where none is refused, the trace that is left has each line at its position, as reading it again gives it.
 abbrev pub Accepts : List Entry → List ScriptLine → List ℕ → List Entry → Type 0
 Accepts t [] replies left = (replies ≡ []) × (left ≡ t)
 Accepts t (comment words ∷ more) replies left = Accepts t more replies left

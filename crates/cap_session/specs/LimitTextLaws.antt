@@ -107,7 +107,7 @@ abbrev pub lines_before : List Entry → ℕ → Limits → List Row → List Sc
 lines_before t k limits rows = insertions k (map (limit_line limits.pid) rows)
     ++ entering_line t limits.pid (k + length rows) limits.entering ∷ []
 
--- Least: with any right less in any row, and all else as it is, some line has a finding that names the right and that it
+-- Least: with any right less in any row, and all else unchanged, some line has a finding that names the right and that it
 -- hadn't before.
 abbrev pub LimitsBeforeAreLeast : Type 0
 LimitsBeforeAreLeast = (profile : Profile) (start : List Added) (t : List Entry) (k : ℕ) (limits : Limits)

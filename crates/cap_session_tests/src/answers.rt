@@ -114,7 +114,7 @@ fn made(
     ExplainOutcome::Ended(outcome)
 }
 
-/// Fails a test where a run doesn't end as it is to.
+/// Fails a test where a run doesn't end as it should.
 pub fn ends(alloc: Global, run: &Run<'_>) -> Result<(), Fail> {
     let mut trace = Pieces::new(run.trace.0, run.trace.1.max(1), run.trace.2);
     let mut other = Pieces::new(run.other.0, run.other.1.max(1), run.other.2);

@@ -6,7 +6,7 @@ use Rattle.cap_summary.specs.{Keys.Cells, Keys.read, LineEffect, Sorted.found, e
 use Rattle.cap_summary.specs.declared.{base.Passing.Passing, before.Before.Before, effect.Effect.Effect, effect.Row.Row}
 use Rattle.cap_summary.specs.declared.{base.Base.Base, base.DefaultCells.DefaultCells, key.Key.Key, value.Value.Value}
 
--- how a whole table of cells is handed on: as it is (fork(2)), or by an exec (execve(2))
+-- how a whole table of cells is handed on: unchanged (fork(2)), or by an exec (execve(2))
 abbrev pub passed : Passing → Cell → Cell
 passed Passing.Same c = c
 passed Passing.Exec c = applied exec c
@@ -36,7 +36,7 @@ abbrev pub row_cell : Cells → ℕ → Row → Key → Cell
 row_cell cells p row Key.Mode = option_map_or (read cells) row.mode (cells p Key.Mode)
 row_cell cells p row (Key.Fd f) = option_map_or (read cells) (found row.cells f) (base_cell cells p row.base f)
 
--- the row of a process that stays as it is
+-- the row of a process that is unchanged
 abbrev pub own_row : Row
 own_row = record { base = record { others = DefaultCells.Own; closed_from = None }; mode = None; cells = [] }
 

@@ -70,7 +70,7 @@ IsUnion lefts rights (Some asks) = IsUnionOf lefts rights asks.items
 
 -- ---- a first segment, and a later one whose asks are pulled back through the effect of the first
 
--- with more reasons by the cells after the first segment, of which something may be said: at most so many asks and
+-- with more reasons by the cells after the first segment, and what may be said of them: at most so many asks and
 -- refusals more, and so many refusals
 pub record IsWithMore (first : Effect) (more : Cells → Bool) (about : Saying → Type 0) (size most : ℕ)
     (old new : Precondition) : Type 0 where

@@ -19,7 +19,7 @@ pub struct Row {
 /// What becomes of each cell over a segment, by the cells before it: its transfer function.
 #[derive(Drop)]
 pub struct Effect {
-    /// A row for each process that is touched, by pid. A process without a row stays as it is.
+    /// A row for each process that is touched, by pid. A process without a row is unchanged.
     pub rows: Map<SharedRow>,
     /// How many rows there are and cells that they list, where these are counted.
     pub(crate) size: Option<usize>,

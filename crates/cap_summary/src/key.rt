@@ -17,7 +17,7 @@ pub enum Key {
 }
 
 /// The cell that a mode is kept as: unknown where nothing is known, closed inside capability mode, and held outside it,
-/// with no rights and open across an exec, so that an exec leaves it as it is.
+/// with no rights and open across an exec, so that an exec leaves it unchanged.
 pub fn cell_of_mode(mode: Mode) -> Cell
     ensures cell { result ≡ mode_cell mode }
     ensures back { cell_mode result ≡ mode }

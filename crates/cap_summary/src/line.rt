@@ -82,7 +82,7 @@ impl Row {
     }
 }
 
-/// Takes out the row of a process; one that leaves it as it is, where it has none.
+/// Takes out the row of a process; where it has none, one that leaves it unchanged.
 fn take_row(alloc: Global, rows: &mut Map<SharedRow>, pid: Pid) -> Result<SharedRow, NoMemory>
     ensures row { IfOk result (λ row. row ≡ unwrap_or (found rows.old pid) own_row) }
     ensures others { OnOk result ((p : ℕ) → (p == pid) ≡ false → found rows.new p ≡ found rows.old p) }

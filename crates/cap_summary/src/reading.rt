@@ -50,7 +50,7 @@ impl Value {
 }
 
 impl Row {
-    /// The row of a process that stays as it is.
+    /// The row of a process that is unchanged.
     pub(crate) fn own(alloc: Global) -> Row
         ensures { result ≡ own_row }
     {

@@ -14,7 +14,7 @@ use cap_rights::NoMemory;
 use std::alloc::{AllocError, Global};
 use std::marker::Model;
 
-/// The text of a path, as it is spelled between its quotes: printable bytes stand for themselves, `"` and `\` follow a
+/// The text of a path, as it stands between its quotes: printable bytes stand for themselves, `"` and `\` follow a
 /// `\`, and any other byte but 0 is `\x` and its two hexadecimal digits in lower case.
 #[derive(Debug, Drop)]
 pub struct Path {
@@ -122,7 +122,7 @@ impl Path {
         self.items.as_slice()
     }
 
-    /// The path of these bytes, as it is written: printable bytes stand for themselves, `"` and `\` follow a `\`,
+    /// The path of these bytes, as its text: printable bytes stand for themselves, `"` and `\` follow a `\`,
     /// and any other byte is `\x` and its two hexadecimal digits.
     ///
     /// # Errors

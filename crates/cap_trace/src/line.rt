@@ -121,7 +121,7 @@ impl<'a> Call<'a> {
         }
     }
 
-    /// The same call once more. It is copied form by form, since only so there is a proof.
+    /// A copy of the call, made form by form, since only so there is a proof.
     #[inline(always)]
     fn copied(&self) -> Call<'a>
         ensures { call_view result ≡ call_view self.now }
@@ -221,7 +221,7 @@ impl<'a> LineRef<'a> {
     ghost use Rattle.cap_trace.specs.Entry.{head_of};
     ghost use Rattle.cap_trace.specs.Names.{name_of};
 
-    /// The same line once more. A caller that hands on no more than this keeps its own in registers.
+    /// A copy of the line. A caller that hands on no more than this keeps its own in registers.
     #[inline(always)]
     pub fn copied(&self) -> LineRef<'a>
         ensures { result ≡ self.now }

@@ -107,7 +107,7 @@ pub fn parse_line(alloc: Global, bytes: &[u8]) -> Result<Line, LineFault>
     ensures memory { result ≡ Err Memory → SpellsSome bytes.now }
     // What is spelled so is read, unless memory runs out.
     ensures only { ReadsOnly bytes.now result }
-    // The same by the function that reads from the left.
+    // The function that reads from the left says the same.
     ensures reads { MatchesReading bytes.now result }
 {
     match read(bytes) {

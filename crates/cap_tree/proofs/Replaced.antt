@@ -1,4 +1,4 @@
--- A node of two parts, one of which an edit replaces: what is known of the parts, by the side of that one.
+-- A node of two parts where an edit replaces one: what is known of the parts, by the side of that one.
 use Rattle.std.proofs.Common.{◌≡◌, ℕ, ◌+◌, ◌*◌, ◌≤◌, min, max, List, ◌++◌, length, length-append, refl, arith}
 use Rattle.cap_tree.specs.declared.similarity.Side.{Side}
 use Rattle.cap_tree.specs.declared.similarity.Side.TheVariants.{Left, Right}

@@ -1,4 +1,4 @@
--- A path of any bytes but 0, as it is written between quotes.
+-- A path of any bytes but 0, as the text between quotes.
 use Rattle.std.specs.Prelude.{◌≡◌, IsTrue, ℕ, ◌+◌, ◌-◌, ◌*◌, ◌/◌, ◌%◌, ◌==◌, ◌||◌, Bool, not, List, [], ◌∷◌, ◌++◌}
 use Rattle.std.specs.Prelude.{Option, Some, None, nat_lt, if◌then◌else◌}
 use Rattle.std.specs.List.{list_all}
@@ -29,7 +29,7 @@ SpellsBytes text bytes = (text ≡ escaped bytes) × IsTrue (lacks_zero bytes)
 abbrev pub OnePath : Type 0
 OnePath = (text a b : List ℕ) → SpellsBytes text a → SpellsBytes text b → a ≡ b
 
--- ---- a text as it is taken byte by byte: the first byte that it spells, and what follows
+-- ---- a text that is taken byte by byte: the first byte that it spells, and what follows
 
 abbrev pub digits_byte : Option ℕ → Option ℕ → List ℕ → Option (ℕ × List ℕ)
 digits_byte None low rest = None
