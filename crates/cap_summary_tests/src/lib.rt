@@ -1,11 +1,14 @@
-//! Tests of summaries: worked traces, cut in two at each place, in both profiles.
+//! Tests of cap_summary, of what no contract says: calls succeed, joined summaries share their steps, and definitions
+//! say what was meant. What is found in worked traces, and what single lines rest on, is in tests/rows.py.
 #![tactic(auto)]
 
 #[cfg(test)]
-mod cuts;
+mod edited;
 #[cfg(test)]
-mod explaining;
+mod explained;
 #[cfg(test)]
-mod parts;
+mod known;
 #[cfg(test)]
-mod rows;
+mod reported;
+#[cfg(test)]
+mod traces;
