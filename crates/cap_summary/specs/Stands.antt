@@ -1,12 +1,16 @@
 -- What a summary stands for.
 use Rattle.std.specs.Prelude.{length, max, ◌≡◌, ◌≤◌}
 use Rattle.std.proofs.Common.{arith, length-append}
-use Rattle.cap_summary.specs.{Kept.HasParts, Kept.content_steps, List, Step, declared.summary.Summary.Summary}
-use Rattle.cap_summary.specs.declared.node.{Content.Content, Node.TheDeep.deep-Content}
+use Rattle.cap_summary.specs.{Kept.HasParts, Kept.content_steps, List, Option, Step, declared.known.Known.Known}
+use Rattle.cap_summary.specs.declared.{node.Content.Content, node.Node.TheDeep.deep-Content, summary.Summary.Summary}
 
 -- the steps that a summary sums up, from the first
 abbrev pub summed_up : Summary → List Step
 summed_up z = z.node.value.steps
+
+-- what is kept of them
+abbrev pub kept_of : Summary → Option Known
+kept_of z = z.node.value.known
 
 -- a summary stands for a list of steps where it sums up just these
 pub record Stands (z : Summary) (t : List Step) : Type 0 where

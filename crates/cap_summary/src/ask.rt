@@ -157,7 +157,7 @@ impl Ask {
     }
 
     /// This ask, or that it holds in every state or in none.
-    pub fn settled(self) -> Pulled
+    pub(crate) fn settled(self) -> Pulled
         ensures holds { (s : State) → pulled_holds (cells_of s) result ≡ holds (cells_of s) self }
         ensures open { IfAsked IsOpen result }
         ensures names { (names : Names) → AskWithin names self → IfAsked (AskWithin names) result }

@@ -3,7 +3,7 @@
 ghost use Rattle.std.specs.Prelude.{IfNone, IfOk, IfSome, OnOk, is_some, length, true, ◌*◌, ◌+◌, ◌<◌, ◌^◌, ◌≡◌, ◌≤◌};
 ghost use Rattle.cap_summary.specs.{Composing.NodesCompose, Kept.NameOrRefuseMany, Preconditions.IsSamePrecondition};
 ghost use Rattle.cap_summary.specs.{Composing.IfKept, Positions.positions, Positions.within, Stands.summed_up, check};
-ghost use Rattle.cap_summary.specs.{Kept.IsKept, Stands.Stands, option_copied, start_state};
+ghost use Rattle.cap_summary.specs.{Kept.IsKept, Stands.Stands, Stands.kept_of, option_copied, start_state};
 
 use crate::explaining::judge_alone;
 use crate::judging::Asked;
@@ -34,7 +34,7 @@ impl Summary {
     pub fn known(&self) -> Option<&Known>
         ensures kept { IfSome result (λ known. IsKept known.now (summed_up self.now)) }
         ensures many { IfNone result (NameOrRefuseMany (summed_up self.now)) }
-        ensures view { option_copied result ≡ self.now.node.value.known }
+        ensures view { option_copied result ≡ kept_of self.now }
         ensures few { length (summed_up self.now) ≤ 2 ^ 30 }
     {
         let _len = self.node.len();
@@ -86,7 +86,7 @@ pub fn report_range(
 ) -> Result<Report, NoMemory>
     ensures found { IfOk result (λ report. report.found.items
         ≡ within from to (check (start_state start.now) (summed_up summary.now))) }
-    ensures few { is_some summary.now.node.value.known ≡ true → IfOk result
+    ensures few { is_some (kept_of summary.now) ≡ true → IfOk result
         (λ report. report.judged ≤ 2096 * length (check (start_state start.now) (summed_up summary.now))) }
     ensures all { IfOk result (λ report. report.judged ≤ 2 * length (summed_up summary.now)) }
     ensures each { IfOk result (λ report. positions report.found.items ≤ report.judged) }
