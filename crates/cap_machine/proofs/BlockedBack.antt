@@ -17,7 +17,7 @@ use Rattle.cap_machine.specs.Touch.{Turn, stays, turns, follows, turn}
 use Rattle.cap_machine.specs.Effect.{effect_turn}
 use Rattle.cap_machine.specs.Live.{is_success, step_blocks, ModePasses, Blocks}
 use Rattle.cap_machine.specs.Live.{IsFirstBlock}
-use Rattle.cap_machine.specs.Code.Wanted.{earlier, unblocked, gathered_blocked, is_child, blocked_before}
+use Rattle.cap_machine.specs.Code.Wanted.{earlier, unblocked, blocked_in_either, is_child, blocked_before}
 
 -- ---- the first number, from one on, at which a fact holds
 
@@ -90,7 +90,7 @@ stays_mode turned later p n e blocks = (p, subst (λ (t : Turn). ModePasses t p 
 
 abbrev pub blocked_moved : Effect → ℕ → (ℕ → Option ℕ) → ℕ → Option ℕ
 blocked_moved effect me blocked p =
-    if p == me then unblocked effect (gathered_blocked effect me blocked)
+    if p == me then unblocked effect (blocked_in_either effect me blocked)
     else (if is_child effect p then None else blocked p)
 
 -- an effect that turns no mode
@@ -236,7 +236,7 @@ blocked_line step d effect at me blocked new later is_requirement is_me turned i
     from_first (step ∷ later) at p (new p)
     (subst (λ (r : Option ℕ). IsFirst (Blocks (step ∷ later) p) at r) (sym (is p))
     (with_line (p == me) (is_success d.reply) (is_forbidden d.class) at
-    (unblocked effect (gathered_blocked effect me blocked)) (if is_child effect p then None else blocked p)
+    (unblocked effect (blocked_in_either effect me blocked)) (if is_child effect p then None else blocked p)
     (Blocks (step ∷ later) p) (λ b. is_blocks ∙ b) (λ b. sym is_blocks ∙ b)
     (first_same (Handed (effect_turn effect me) later p) (λ n. Blocks (step ∷ later) p (suc n)) (at + 1)
     (blocked_moved effect me blocked p)

@@ -37,7 +37,7 @@ is_above : (f : ℕ) → top ≤ f → nat_le f largest_fd ≡ false
 unfolding top
 is_above f above = grind (arith, nat_tests, above)
 
-cells_above : (cells : Cells) (f : ℕ) → top ≤ f → cell_in_cells cells f ≡ cells.far
+cells_above : (cells : Cells) (f : ℕ) → top ≤ f → cell_in_cells cells f ≡ cells.above
 unfolding cell_in_cells top
 cells_above cells f above =
     neither (nat_lt f 64) (nat_le f largest_fd) _ _ _ (not_below f 64 (omega arith)) (is_above f above)
@@ -70,10 +70,10 @@ below_read cell rest (suc n) f =
 known_cell : (q : Process) (f : ℕ) → listed_cell (known_of q).rest (known_of q).cells f ≡ cell_in q f
 known_cell q f =
     let cell : ℕ → Cell = cell_in_cells q.cells in
-    below_read cell q.cells.far top f
+    below_read cell q.cells.above top f
     ∙ ⊎_elim
-    (λ lt. ap (λ (b : Bool). if b then cell f else q.cells.far) (is_below f top lt))
-    (λ ge. ap (λ (b : Bool). if b then cell f else q.cells.far) (not_below f top ge) ∙ sym (cells_above q.cells f ge))
+    (λ lt. ap (λ (b : Bool). if b then cell f else q.cells.above) (is_below f top lt))
+    (λ ge. ap (λ (b : Bool). if b then cell f else q.cells.above) (not_below f top ge) ∙ sym (cells_above q.cells f ge))
     (cases_lt f top)
 
 -- the process with a pid, among those that stand at their place, the first of these at place i

@@ -27,7 +27,7 @@ use Rattle.cap_machine.specs.Touch.{Touch, kept, given, taken, started, touch}
 use Rattle.cap_machine.specs.Effect.{effect_touch}
 use Rattle.cap_machine.specs.Judge.{listed}
 use Rattle.cap_machine.specs.Live.{is_success, checks_need, step_needs, HandsOn, Passes, Live}
-use Rattle.cap_machine.specs.Code.Wanted.{back_through, wanted_with, undone, gathered, is_child, with_checks}
+use Rattle.cap_machine.specs.Code.Wanted.{back_through, wanted_with, undone, wanted_in_either, is_child, with_checks}
 use Rattle.cap_machine.specs.Code.Wanted.{with_requirement, wanted_before}
 use Rattle.std.proofs.Math.Path.{fun_ext}
 use Rattle.cap_machine.proofs.Profiles.{or_swap}
@@ -73,19 +73,19 @@ by_own me p own new mid rest f is_mid is =
 
 pub before_rule : (d : Requirement) (effect : Effect) (me : ℕ) (w mid new : ℕ → ℕ → OnExec → ℕ)
     → ((p f : ℕ) (x : OnExec) → mid p f x
-    ≡ (if p == me then gathered effect me w f x else (if is_child effect p then 0 else w p f x)))
+    ≡ (if p == me then wanted_in_either effect me w f x else (if is_child effect p then 0 else w p f x)))
     → (p f : ℕ) (x : OnExec) → new p f x
     ≡ (if p == me then with_requirement d (undone effect (mid me)) f x else mid p f x)
     → new p f x ≡ wanted_before d effect me w p f x
 before_rule d effect me w mid new is_mid p f x is =
-    let own : mid me ≡ gathered effect me w =
+    let own : mid me ≡ wanted_in_either effect me w =
     fun_ext (λ g. fun_ext (λ y. is_mid me g y
-    ∙ cond-true (me == me) (gathered effect me w g y) (if is_child effect me then 0 else w me g y)
+    ∙ cond-true (me == me) (wanted_in_either effect me w g y) (if is_child effect me then 0 else w me g y)
     (eq-eqb me me refl))) in
     is
     ∙ ap (λ (u : ℕ → OnExec → ℕ). if p == me then with_requirement d (undone effect u) f x else mid p f x) own
-    ∙ own_then (p == me) (gathered effect me w f x) (mid p f x) (if is_child effect p then 0 else w p f x)
-    (is_mid p f x) (with_requirement d (undone effect (gathered effect me w)) f x)
+    ∙ own_then (p == me) (wanted_in_either effect me w f x) (mid p f x) (if is_child effect p then 0 else w p f x)
+    (is_mid p f x) (with_requirement d (undone effect (wanted_in_either effect me w)) f x)
 
 -- ---- where rights come from
 
@@ -189,7 +189,7 @@ taken_back b op me from w p f x k reach =
 -- what is wanted before an effect of a line of process me, of each process
 abbrev pub moved : Effect → ℕ → (ℕ → ℕ → OnExec → ℕ) → ℕ → ℕ → OnExec → ℕ
 moved effect me w p f x =
-    if p == me then undone effect (gathered effect me w) f x else (if is_child effect p then 0 else w p f x)
+    if p == me then undone effect (wanted_in_either effect me w) f x else (if is_child effect p then 0 else w p f x)
 
 iff_along : (k a b : ℕ) (P : Type 0) → a ≡ b → (holds b k ≡ true) ↔ P → (holds a k ≡ true) ↔ P
 iff_along k a b P e h =
@@ -389,7 +389,7 @@ as_here child g0 me w p f x k it =
     let touches : ℕ → ℕ → Touch = effect_touch (ForkAs child g0) me in
     let forks : ℕ → ℕ → Touch = effect_touch (Fork child) me in
     let both : ℕ → ℕ → Bool = λ q g. (q == me || q == child) && g == g0 in
-    let all_mine : ℕ = gathered (ForkAs child g0) me w f x in
+    let all_mine : ℕ = wanted_in_either (ForkAs child g0) me w f x in
     let mine : ℕ = if f == g0 then 0 else all_mine in
     let others : ℕ = if p == child then 0 else w p f x in (
       λ h. ⊎_elim
@@ -429,7 +429,7 @@ as_moves child g0 me w p f x k lt =
     (λ other. let there = as_elsewhere child g0 me w p f x k other in
     let fork = fork_moves child me w p f x k lt in
     let is : moved (ForkAs child g0) me w p f x ≡ moved (Fork child) me w p f x =
-    ap (λ (b : Bool). if p == me then (if b then 0 else gathered (ForkAs child g0) me w f x)
+    ap (λ (b : Bool). if p == me then (if b then 0 else wanted_in_either (ForkAs child g0) me w f x)
     else (if p == child then 0 else w p f x)) other in (
       λ h. there.0 (fork.0 (ap (λ (r : ℕ). holds r k) (sym is) ∙ h)),
       λ reach. ap (λ (r : ℕ). holds r k) is ∙ fork.1 (there.1 reach),
@@ -500,7 +500,7 @@ live_before step d effect me w new later is_requirement is_me touches is live p 
     && (p == step.line.pid && checks_need (listed e.checks) f k)) is_requirement in
     let split : holds (new p f x) k ≡ (needs || holds (moved effect me w p f x) k) =
     ap (λ (r : ℕ). holds r k) (is p f x)
-    ∙ needs_in (is_success d.reply) (p == me) (listed d.checks) (undone effect (gathered effect me w)) f x k
+    ∙ needs_in (is_success d.reply) (p == me) (listed d.checks) (undone effect (wanted_in_either effect me w)) f x k
     (if is_child effect p then 0 else w p f x) in
     let reach = moves effect me w p f x k lt in (
       λ h. ⊎_elim (λ n. inl (sym is_needs ∙ n))

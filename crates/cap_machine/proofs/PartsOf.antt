@@ -106,7 +106,7 @@ seen_other ask w marks parts f i new lt ne =
     (get_or-set_other parts i (f / w) new new ne)
     ∙ sym (view ask w marks parts f new lt)
 
--- one part is written, and nothing is pending there
+-- one part is written, and nothing is deferred there
 pub part_written : {X : Type 0} (ask : X → ℕ → Cell) (w : ℕ) (marks : List Deferred) (parts : List X) (fd : ℕ)
     (cell : Cell) (old new : X) (f : ℕ)
     → length marks ≡ 8 → length parts ≡ 8 → fd / w < 8 → f / w < 8 → ask new (f % w) ≡ (if f % w == fd % w
@@ -131,7 +131,7 @@ part_written ask w marks parts fd cell old new f m p lt lf wrote =
     ∙ ap (λ b. if b then cell else look ask w marks parts f) (sym (other_part f fd w ne)))
     (cases_eq (f / w) (fd / w))
 
--- one part is closed from a descriptor on and nothing is pending there, and those after it are closed
+-- one part is closed from a descriptor on and nothing is deferred there, and those after it are closed
 pub part_closed : {X : Type 0} (ask : X → ℕ → Cell) (w : ℕ) (marks later : List Deferred) (parts : List X) (fd : ℕ)
     (d new : X) (f : ℕ) → 0 < w
     → length marks ≡ 8 → length parts ≡ 8 → fd / w < 8 → f / w < 8 → ask new (f % w) ≡ (if nat_le (fd % w) (f % w)

@@ -59,7 +59,7 @@ fn write_tree(
 }
 
 /// Writes a listed cell in the tree. None is listed above the largest descriptor, where there is no tree.
-fn settle_one(
+fn flush_one(
     one: &WrittenCell,
     started: &mut Started,
     high: &mut Shared<Cells1M>,
@@ -76,7 +76,7 @@ fn settle_one(
 }
 
 /// Writes these cells in the tree.
-fn settle_all(
+fn flush_all(
     few: &WrittenCells,
     started: &mut Started,
     high: &mut Shared<Cells1M>,
@@ -86,7 +86,7 @@ fn settle_all(
         ≡ in_written_cells few.now (in_started started.old (in_shared in_cells_1m high.old f) f) f) }
 {
     for one in few.as_slice() {
-        settle_one(one, started, high)?;
+        flush_one(one, started, high)?;
     }
     Ok(())
 }
@@ -100,7 +100,7 @@ pub(crate) struct Cells {
     few: WrittenCells,
     started: Started,
     high: Shared<Cells1M>,
-    far: Cell,
+    above: Cell,
 }
 
 impl Cells {
@@ -114,7 +114,7 @@ impl Cells {
             few: WrittenCells::none(alloc),
             started: Started::nothing(alloc),
             high: Shared::all(alloc, cell)?,
-            far: cell,
+            above: cell,
         })
     }
 
@@ -140,7 +140,7 @@ impl Cells {
         } else if fd <= LARGEST_FD {
             self.few.over(self.unlisted(fd), fd)
         } else {
-            self.far
+            self.above
         }
     }
 
@@ -193,10 +193,10 @@ impl Cells {
     /// Writes in the tree what is listed, for a clone to share. Each listed cell is so written there once, however many
     /// clones there are, and each clone begins with an empty list.
     #[tactic(auto, unfolding(crate::specs::Code::Cells::cell_in_cells))]
-    pub(crate) fn settle(&mut self, alloc: Global) -> Result<(), NoMemory>
+    pub(crate) fn flush(&mut self, alloc: Global) -> Result<(), NoMemory>
         ensures { OnOk result ((f : ℕ) → cell_in_cells self.new f ≡ cell_in_cells self.old f) }
     {
-        settle_all(&self.few, &mut self.started, &mut self.high)?;
+        flush_all(&self.few, &mut self.started, &mut self.high)?;
         self.few = WrittenCells::none(alloc);
         Ok(())
     }
@@ -210,7 +210,7 @@ impl Cells {
         self.few.apply_deferred(deferred)?;
         self.started.apply_deferred(deferred);
         self.high.apply_deferred(deferred);
-        self.far = deferred.on(self.far);
+        self.above = deferred.on(self.above);
         Ok(())
     }
 
@@ -229,7 +229,7 @@ impl Cells {
         }
         self.few.strike_from(fd);
         self.started.strike_from(fd);
-        self.far = Cell::Closed;
+        self.above = Cell::Closed;
         Ok(())
     }
 
@@ -259,7 +259,7 @@ impl Cells {
         self.few = WrittenCells::none(alloc);
         self.started = Started::of(alloc, fds)?;
         self.high.apply_deferred(Deferred::Close);
-        self.far = Cell::Closed;
+        self.above = Cell::Closed;
         Ok(())
     }
 
@@ -296,7 +296,7 @@ impl Clone for Cells {
             few: self.few.clone()?,
             started: self.started.clone()?,
             high: self.high.clone()?,
-            far: self.far,
+            above: self.above,
         })
     }
 }

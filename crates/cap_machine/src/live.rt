@@ -10,7 +10,8 @@ ghost use Rattle.cap_machine.specs.declared.cell.OnExec.{OnExec};
 ghost use Rattle.cap_machine.specs.declared.step.Step.{Step};
 ghost use Rattle.cap_machine.specs.Steps.{step};
 ghost use Rattle.cap_machine.specs.Code.LiveRights.{AreLive, AreBlocked, IsRule};
-ghost use Rattle.cap_machine.specs.Code.Wanted.{rights_of, wanted_of, wanted, blocked, gathered, gathered_blocked, is_child};
+ghost use Rattle.cap_machine.specs.Code.Wanted.{rights_of, wanted_of, wanted, blocked, is_child};
+ghost use Rattle.cap_machine.specs.Code.Wanted.{wanted_in_either, blocked_in_either};
 ghost use Rattle.cap_machine.specs.Code.Wanted.{undone, unblocked, with_requirement, blocked_with};
 
 use crate::cell::{OnExec, Profile};
@@ -103,10 +104,10 @@ impl LiveRights {
     #[inline(always)]
     fn gather(&mut self, me: Pid, effect: &Effect<'_>) -> Result<(), NoMemory>
         ensures rights { OnOk result ((p f : ℕ) (x : OnExec) → wanted self.new p f x
-            ≡ (if p == me then gathered effect.now me (wanted self.old) f x
+            ≡ (if p == me then wanted_in_either effect.now me (wanted self.old) f x
             else (if is_child effect.now p then 0 else wanted self.old p f x))) }
         ensures blocked { OnOk result ((p : ℕ) → blocked self.new p
-            ≡ (if p == me then gathered_blocked effect.now me (blocked self.old)
+            ≡ (if p == me then blocked_in_either effect.now me (blocked self.old)
             else (if is_child effect.now p then None else blocked self.old p))) }
     {
         match effect {

@@ -144,8 +144,8 @@ fn set_place(places: &mut Vec<usize>, pid: Pid, place: usize) -> Result<(), NoMe
 
 /// The known processes, and where the one with a pid is among them; that place means nothing for a pid that has none.
 ///
-/// A process that is new or forgotten begins from a clone of the cells in `blank`, whatever they are, with all of them
-/// pending to be forgotten: so it shares them, and takes memory only for what is written.
+/// A process that is new or forgotten begins from a clone of the cells in `blank`, whatever they are, and that all of
+/// them are forgotten is deferred: so it shares them, and takes memory only for what is written.
 ///
 /// What is left of a process that was replaced is in `deferred_free`, and is freed by the lines that follow.
 #[derive(Drop)]
@@ -407,21 +407,21 @@ impl Table {
     }
 
     /// Writes in the tree of a process what it listed, for a child to share.
-    fn settle(&mut self, pid: Pid) -> Result<(), NoMemory>
+    fn flush(&mut self, pid: Pid) -> Result<(), NoMemory>
         ensures { OnOk result (Keeps self.new (state_of self.old)) }
     {
         let alloc = self.alloc;
         match self.place_of(pid) {
             Some(place) => {
                 let process = &mut self.processes[place];
-                process.cells.settle(alloc)?;
+                process.cells.flush(alloc)?;
                 Ok(())
             }
             None => Ok(()),
         }
     }
 
-    /// Gives the child what the parent has, which is settled.
+    /// Gives the child what the parent has, whose list is flushed.
     fn share(&mut self, parent: Pid, child: Pid) -> Result<(), NoMemory>
         ensures { OnOk result (Keeps self.new (with_copy (state_of self.old) parent child)) }
     {
@@ -434,7 +434,7 @@ impl Table {
     fn fork(&mut self, parent: Pid, child: Pid) -> Result<(), NoMemory>
         ensures { OnOk result (Keeps self.new (with_copy (state_of self.old) parent child)) }
     {
-        self.settle(parent)?;
+        self.flush(parent)?;
         self.share(parent, child)?;
         Ok(())
     }

@@ -12,44 +12,44 @@ use Rattle.cap_trace.specs.Names.{Head, listed, unlisted}
 use Rattle.cap_trace.specs.Entry.{Arg, an_fd, some_flags, a_command, a_word, Word, dest, set_fd, dup_to, fds}
 use Rattle.cap_trace.specs.Entry.{args_of_call, args_of, head_of_call, head_of, RisesFrom}
 use Rattle.cap_trace.specs.Spelling.{SpellsArgs, word_text}
-use Rattle.cap_trace.specs.Forms.{Slot, Shape, these, rising_fds, Said, a_call, a_marker, built, shape_of}
-use Rattle.cap_trace.specs.Reading.{◌>>=◌, args_at, fds_from, shaped, said_at}
+use Rattle.cap_trace.specs.Forms.{Slot, Shape, these, rising_fds, Event, a_call, a_marker, built, shape_of}
+use Rattle.cap_trace.specs.Reading.{◌>>=◌, args_at, fds_from, shaped, event_at}
 use Rattle.cap_trace.proofs.Cuts.{eqb_same}
 use Rattle.cap_trace.proofs.Numerals.{bind_ok}
 use Rattle.cap_trace.proofs.Spelled.{bind_made, slot_of, slots_of, args_take, args_again, as_many, fds_take}
 use Rattle.cap_trace.proofs.Spelled.{fds_again}
 
-abbrev pub said_args : Said → List Arg
-said_args (a_call c) = args_of_call c
-said_args (a_marker i) = args_of i
+abbrev pub event_args : Event → List Arg
+event_args (a_call c) = args_of_call c
+event_args (a_marker i) = args_of i
 
-abbrev pub said_head : Said → Head
-said_head (a_call c) = head_of_call c
-said_head (a_marker i) = head_of i
+abbrev pub event_head : Event → Head
+event_head (a_call c) = head_of_call c
+event_head (a_marker i) = head_of i
 
 -- what a start says beyond its arguments
-abbrev pub SaidWhole : Said → Type 0
-SaidWhole (a_call c) = Unit {0}
-SaidWhole (a_marker (items.Start fs)) = RisesFrom 0 fs
-SaidWhole (a_marker (items.Call c a)) = ⊥
-SaidWhole (a_marker items.Exit) = Unit {0}
-SaidWhole (a_marker (items.Foreign f)) = Unit {0}
+abbrev pub IsWholeEvent : Event → Type 0
+IsWholeEvent (a_call c) = Unit {0}
+IsWholeEvent (a_marker (items.Start fs)) = RisesFrom 0 fs
+IsWholeEvent (a_marker (items.Call c a)) = ⊥
+IsWholeEvent (a_marker items.Exit) = Unit {0}
+IsWholeEvent (a_marker (items.Foreign f)) = Unit {0}
 
-pub record Says (h : Head) (given : List Arg) (s : Said) : Type 0 where
-  pub args : said_args s ≡ given
-  pub head : said_head s ≡ h
-  pub whole : SaidWhole s
+pub record Says (h : Head) (given : List Arg) (s : Event) : Type 0 where
+  pub args : event_args s ≡ given
+  pub head : event_head s ≡ h
+  pub whole : IsWholeEvent s
 
-args_or : List Arg → Result Said FirstFault → List Arg
-args_or given (Ok s) = said_args s
+args_or : List Arg → Result Event FirstFault → List Arg
+args_or given (Ok s) = event_args s
 args_or given (Err d) = given
 
-head_or : Head → Result Said FirstFault → Head
-head_or h (Ok s) = said_head s
+head_or : Head → Result Event FirstFault → Head
+head_or h (Ok s) = event_head s
 head_or h (Err d) = h
 
 -- only a start says more than its arguments
-says_more : Result Said FirstFault → Bool
+says_more : Result Event FirstFault → Bool
 says_more (Ok (a_call c)) = false
 says_more (Ok (a_marker (items.Start fs))) = true
 says_more (Ok (a_marker (items.Call c a))) = true
@@ -75,7 +75,7 @@ built_less (listed (forms.OnFd c)) given = grind arith
 built_less (listed f) given = grind arith
 built_less (unlisted n) given = grind arith
 
-whole_of : (s : Said) → says_more (Ok s) ≡ false → SaidWhole s
+whole_of : (s : Event) → says_more (Ok s) ≡ false → IsWholeEvent s
 unfolding says_more
 whole_of (a_call c) e = tt
 whole_of (a_marker (items.Start fs)) e = absurd cc
@@ -83,7 +83,7 @@ whole_of (a_marker (items.Call c a)) e = absurd cc
 whole_of (a_marker items.Exit) e = tt
 whole_of (a_marker (items.Foreign f)) e = tt
 
-built_takes : (h : Head) (given : List Arg) (s : Said) → built h given ≡ Ok s → Says h given s
+built_takes : (h : Head) (given : List Arg) (s : Event) → built h given ≡ Ok s → Says h given s
 unfolding args_or head_or
 built_takes h given s e = record {
   args = sym (ap (args_or given) e) ∙ built_args h given;
@@ -93,17 +93,17 @@ built_takes h given s e = record {
 
 -- ---- step 5
 
-pub record Spelled (h : Head) (ts : List (List ℕ)) (s : Said) : Type 0 where
-  pub args : SpellsArgs ts (said_args s)
-  pub head : said_head s ≡ h
-  pub whole : SaidWhole s
+pub record Spelled (h : Head) (ts : List (List ℕ)) (s : Event) : Type 0 where
+  pub args : SpellsArgs ts (event_args s)
+  pub head : event_head s ≡ h
+  pub whole : IsWholeEvent s
 
 counted_ok : {A : Type 0} (b : Bool) (r : Result A FirstFault) (x : A) → cond b r (Err faults.Argument) ≡ Ok x
     → r ≡ Ok x
 counted_ok true r x e = e
 counted_ok false r x e = absurd cc
 
-these_take : (h : Head) (ss : List Slot) (ts : List (List ℕ)) (s : Said) → shaped h (these ss) ts ≡ Ok s
+these_take : (h : Head) (ss : List Slot) (ts : List (List ℕ)) (s : Event) → shaped h (these ss) ts ≡ Ok s
     → Spelled h ts s
 these_take h ss ts s e =
     let read = counted_ok (eqb (length ts) (length ss)) (args_at ss ts >>= λ given. built h given) s e in
@@ -115,25 +115,25 @@ these_take h ss ts s e =
       whole = says.whole;
     }
 
-start_takes : (ts : List (List ℕ)) (s : Said) → shaped (listed forms.Start) rising_fds ts ≡ Ok s
+start_takes : (ts : List (List ℕ)) (s : Event) → shaped (listed forms.Start) rising_fds ts ≡ Ok s
     → Spelled (listed forms.Start) ts s
 start_takes ts s e =
     let fs = bind_made (fds_from 0 ts) (λ fs. a_marker (items.Start fs)) s e in
     let p = fds_take 0 ts fs.0 fs.1 in
-    subst (λ (x : Said). Spelled (listed forms.Start) ts x) fs.2 (record { args = p.0; head = refl; whole = p.1 })
+    subst (λ (x : Event). Spelled (listed forms.Start) ts x) fs.2 (record { args = p.0; head = refl; whole = p.1 })
 
 abbrev pub slots_in : Shape → List Slot
 slots_in (these ss) = ss
 slots_in rising_fds = []
 
-pub said_takes : (h : Head) (ts : List (List ℕ)) (s : Said) → said_at h ts ≡ Ok s → Spelled h ts s
-unfolding said_at
-said_takes (listed forms.Start) ts s e = start_takes ts s e
-said_takes h ts s e = these_take h (slots_in (shape_of h ts)) ts s e
+pub event_takes : (h : Head) (ts : List (List ℕ)) (s : Event) → event_at h ts ≡ Ok s → Spelled h ts s
+unfolding event_at
+event_takes (listed forms.Start) ts s e = start_takes ts s e
+event_takes h ts s e = these_take h (slots_in (shape_of h ts)) ts s e
 
 -- ---- the other way
 
-these_again : (h : Head) (ts : List (List ℕ)) (given : List Arg) (s : Said) (ss : List Slot) → ss ≡ slots_of given
+these_again : (h : Head) (ts : List (List ℕ)) (given : List Arg) (s : Event) (ss : List Slot) → ss ≡ slots_of given
     → built h given ≡ Ok s → SpellsArgs ts given → shaped h (these ss) ts ≡ Ok s
 these_again h ts given s ss same e h2 =
     let many : eqb (length ts) (length (slots_of given)) ≡ true =
@@ -141,23 +141,23 @@ these_again h ts given s ss same e h2 =
     ap (λ (x : List Slot). shaped h (these x) ts) same ∙ rw (many, args_again ts given h2) e
 
 -- a command that asks for a third argument
-command_again : (w : Word) (x : ℕ) (b : Arg) (s : Said)
+command_again : (w : Word) (x : ℕ) (b : Arg) (s : Event)
     → built (listed forms.Fcntl) (an_fd x ∷ a_word w ∷ b ∷ []) ≡ Ok s
-    → ((t v : List ℕ) → said_at (listed forms.Fcntl) (t ∷ word_text w ∷ v ∷ [])
+    → ((t v : List ℕ) → event_at (listed forms.Fcntl) (t ∷ word_text w ∷ v ∷ [])
     ≡ shaped (listed forms.Fcntl) (these (slots_of (an_fd x ∷ a_word w ∷ b ∷ []))) (t ∷ word_text w ∷ v ∷ []))
-    → (ts : List (List ℕ)) → SpellsArgs ts (an_fd x ∷ a_word w ∷ b ∷ []) → said_at (listed forms.Fcntl) ts ≡ Ok s
+    → (ts : List (List ℕ)) → SpellsArgs ts (an_fd x ∷ a_word w ∷ b ∷ []) → event_at (listed forms.Fcntl) ts ≡ Ok s
 command_again w x b s e same [] h = absurd h
 command_again w x b s e same (t ∷ []) h = absurd h.1
 command_again w x b s e same (t ∷ u ∷ []) h = absurd h.1.1
 command_again w x b s e same (t ∷ u ∷ v ∷ []) h =
-    ap (λ (y : List ℕ). said_at (listed forms.Fcntl) (t ∷ y ∷ v ∷ [])) h.1.0 ∙ same t v
+    ap (λ (y : List ℕ). event_at (listed forms.Fcntl) (t ∷ y ∷ v ∷ [])) h.1.0 ∙ same t v
     ∙ these_again (listed forms.Fcntl) (t ∷ word_text w ∷ v ∷ []) (an_fd x ∷ a_word w ∷ b ∷ []) s _ refl e
     (h.0, (refl, h.1.1))
 command_again w x b s e same (t ∷ u ∷ v ∷ z ∷ ts) h = absurd h.1.1.1
 
 pub call_again : (c : Call) (ts : List (List ℕ)) → SpellsArgs ts (args_of_call c)
-    → said_at (head_of_call c) ts ≡ Ok (a_call c)
-unfolding said_at slot_of
+    → event_at (head_of_call c) ts ≡ Ok (a_call c)
+unfolding event_at slot_of
 call_again (calls.Send c x) [] h = absurd h
 call_again (calls.Send c x) (t ∷ []) h =
     these_again (listed (forms.Send c)) (t ∷ []) (an_fd x ∷ []) (a_call (calls.Send c x)) _ refl refl h
@@ -179,15 +179,15 @@ call_again (calls.FcntlDup dup_commands.FDup2fdCloexec x y) ts h =
 call_again c ts h = these_again (head_of_call c) ts (args_of_call c) (a_call c) _ refl refl h
 
 pub start_again : (fs : List ℕ) (ts : List (List ℕ)) → SpellsArgs ts (fds fs) → RisesFrom 0 fs
-    → said_at (listed forms.Start) ts ≡ Ok (a_marker (items.Start fs))
-unfolding said_at
+    → event_at (listed forms.Start) ts ≡ Ok (a_marker (items.Start fs))
+unfolding event_at
 start_again fs ts h r = rw (fds_again 0 ts fs h r) refl
 
-pub exit_again : (ts : List (List ℕ)) → SpellsArgs ts [] → said_at (listed forms.Exit) ts ≡ Ok (a_marker items.Exit)
-unfolding said_at
+pub exit_again : (ts : List (List ℕ)) → SpellsArgs ts [] → event_at (listed forms.Exit) ts ≡ Ok (a_marker items.Exit)
+unfolding event_at
 exit_again ts h = these_again (listed forms.Exit) ts [] (a_marker items.Exit) _ refl refl h
 
 pub foreign_again : (f : ℕ) (ts : List (List ℕ)) → SpellsArgs ts (an_fd f ∷ [])
-    → said_at (listed forms.Foreign) ts ≡ Ok (a_marker (items.Foreign f))
-unfolding said_at slot_of
+    → event_at (listed forms.Foreign) ts ≡ Ok (a_marker (items.Foreign f))
+unfolding event_at slot_of
 foreign_again f ts h = these_again (listed forms.Foreign) ts (an_fd f ∷ []) (a_marker (items.Foreign f)) _ refl refl h

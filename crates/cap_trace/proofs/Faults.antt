@@ -25,7 +25,7 @@ use Rattle.cap_trace.specs.Forms.{Slot, fd, dir, flags, rights, path, command, w
 use Rattle.cap_trace.specs.Forms.{shape_of, a_marker, built}
 use Rattle.cap_trace.specs.Reading.{◌>>=◌, need, positive, kept, after_prefix, before_suffix, pid_at, fd_at, rights_at}
 use Rattle.cap_trace.specs.Reading.{dir_at, flags_at, command_at, path_at, free_at, arg_at, args_at, fds_from, shaped}
-use Rattle.cap_trace.specs.Reading.{said_at, number_at, same_at, pair_at, any_at, made_at, result_at}
+use Rattle.cap_trace.specs.Reading.{event_at, number_at, same_at, pair_at, any_at, made_at, result_at}
 use Rattle.cap_trace.proofs.Built.{slots_in}
 
 -- ---- steps
@@ -182,10 +182,10 @@ shaped_err q a h (these ss) ts d p e =
       ]
     ]
 
-pub said_err : (q : FirstFault → Bool) → q faults.Argument ≡ true → (h : Head) (ts : List (List ℕ)) (d : FirstFault)
-    → passes_slots q (slots_in (shape_of h ts)) ≡ true → said_at h ts ≡ Err d → q d ≡ true
-unfolding said_at
-said_err q a h ts d p e = shaped_err q a h (shape_of h ts) ts d p e
+pub event_err : (q : FirstFault → Bool) → q faults.Argument ≡ true → (h : Head) (ts : List (List ℕ)) (d : FirstFault)
+    → passes_slots q (slots_in (shape_of h ts)) ≡ true → event_at h ts ≡ Err d → q d ≡ true
+unfolding event_at
+event_err q a h ts d p e = shaped_err q a h (shape_of h ts) ts d p e
 
 -- ---- the answer
 

@@ -22,8 +22,8 @@ use Rattle.cap_trace.specs.Number.{num_at}
 use Rattle.cap_trace.specs.Quotes.{cut_at_byte, around}
 use Rattle.cap_trace.specs.Entry.{Entry, an_fd, some_rights, IsPid, IsFd, kind_of}
 use Rattle.cap_trace.specs.Forms.{Slot, fd, rights, free, shape_of, send_shape}
-use Rattle.cap_trace.specs.Forms.{fcntl_shape, Said, a_call, a_marker, built}
-use Rattle.cap_trace.specs.Reading.{◌>>=◌, need, after_prefix, pid_at, fd_at, rights_at, arg_at, args_at, said_at}
+use Rattle.cap_trace.specs.Forms.{fcntl_shape, Event, a_call, a_marker, built}
+use Rattle.cap_trace.specs.Reading.{◌>>=◌, need, after_prefix, pid_at, fd_at, rights_at, arg_at, args_at, event_at}
 use Rattle.cap_trace.specs.Reading.{same_at, result_at, made_at, answer_at, ended, args_and_tail, after_bracket}
 use Rattle.cap_trace.specs.Reading.{item_at, entry_at, line_of, fault}
 use Rattle.cap_trace.specs.Spoiled.{LongLineExactly, PidExactly, SpellsNoPid, RightOnlyOfLimits, LimitsByNoRights}
@@ -34,7 +34,7 @@ use Rattle.cap_trace.proofs.Heads.{head_takes}
 use Rattle.cap_trace.proofs.Spelled.{bind_made, pid_takes, pid_again, fd_takes}
 use Rattle.cap_trace.proofs.WholeLines.{args_and_tail_takes}
 use Rattle.cap_trace.proofs.Faults.{err_is, bind_err, made_err, need_err, pid_err, arg_err, passes_slots, built_err}
-use Rattle.cap_trace.proofs.Faults.{said_err, same_err, is_same, made_fails, errno_err}
+use Rattle.cap_trace.proofs.Faults.{event_err, same_err, is_same, made_fails, errno_err}
 
 pub fault_err : (r : Result Entry FirstFault) (f : FirstFault)
     → (elim r as (λ _. Option FirstFault) [ Ok e ↦ None | Err d ↦ Some d ]) ≡ Some f → r ≡ Err f
@@ -86,7 +86,7 @@ end_err : (b : Bool) (i : Item) (d : FirstFault)
 end_err true i d e = absurd cc
 end_err false i d e = sym (err_is {A = Item} faults.Shape d e)
 
-ended_passes : (q : FirstFault → Bool) → Passes q → (s : Said) (tail : List ℕ) (d : FirstFault) → ended s tail ≡ Err d
+ended_passes : (q : FirstFault → Bool) → Passes q → (s : Event) (tail : List ℕ) (d : FirstFault) → ended s tail ≡ Err d
     → q d ≡ true
 unfolding ended
 ended_passes q p (a_call c) tail d e =
@@ -99,7 +99,7 @@ pub record OfArguments (text : List ℕ) (d : FirstFault) : Type 0 where
   pub texts : List (List ℕ)
   pub tail : List ℕ
   pub parts : text ≡ name_of head ++ (40 ∷ (join_with_byte 44 texts ++ (41 ∷ tail)))
-  pub said : said_at head texts ≡ Err d
+  pub said : event_at head texts ≡ Err d
 
 abbrev PassesOr : (FirstFault → Bool) → List ℕ → FirstFault → Type 0
 PassesOr q text d = (q d ≡ true) ⊎ OfArguments text d
@@ -108,9 +108,9 @@ after_bracket_err : (q : FirstFault → Bool) → Passes q → (text name rest :
     → text ≡ name ++ (40 ∷ rest) → name_of h ≡ name → after_bracket h rest ≡ Err d → PassesOr q text d
 after_bracket_err q p text name rest h d at is e =
     elim (bind_err (need faults.Shape (args_and_tail h rest))
-    (λ args. said_at h args.0 >>= λ s. ended s args.1) d e) as (λ _. PassesOr q text d) [
+    (λ args. event_at h args.0 >>= λ s. ended s args.1) d e) as (λ _. PassesOr q text d) [
       | inl g ↦ inl (ap q (need_err faults.Shape (args_and_tail h rest) d g) ∙ p.shape)
-      | inr g ↦ elim (bind_err (said_at h g.0.0) (λ s. ended s g.0.1) d g.2) as (λ _. PassesOr q text d) [
+      | inr g ↦ elim (bind_err (event_at h g.0.0) (λ s. ended s g.0.1) d g.2) as (λ _. PassesOr q text d) [
         | inl k ↦ inr (record {
           head = h;
           texts = g.0.0;
@@ -150,7 +150,7 @@ item_passes : (q : FirstFault → Bool) → Passes q → q faults.Right ≡ true
 item_passes q p r text d e =
     elim (item_err q p text d e) as (λ _. q d ≡ true) [
       | inl h ↦ h
-      | inr h ↦ said_err q p.argument h.head h.texts d (every_slot q p r (slots_in (shape_of h.head h.texts))) h.said
+      | inr h ↦ event_err q p.argument h.head h.texts d (every_slot q p r (slots_in (shape_of h.head h.texts))) h.said
     ]
 
 -- ---- the length
@@ -344,7 +344,7 @@ need_none : {A : Type 0} (c d : FirstFault) (o : Option A) → need c o ≡ Err 
 need_none c d None e = refl
 need_none c d (Some x) e = absurd cc
 
-counted_two : (b : Bool) (r : Result Said FirstFault) → cond b r (Err faults.Argument) ≡ Err faults.Right
+counted_two : (b : Bool) (r : Result Event FirstFault) → cond b r (Err faults.Argument) ≡ Err faults.Right
     → (b ≡ true) × (r ≡ Err faults.Right)
 counted_two true r e = (refl, e)
 counted_two false r e = absurd cc
@@ -381,9 +381,9 @@ limit_args (t ∷ []) n e = absurd (omega arith)
 limit_args (t ∷ u ∷ []) n e = no_rights_here t u e
 limit_args (t ∷ u ∷ v ∷ more) n e = absurd (omega arith)
 
-limit_said : (ts : List (List ℕ)) → said_at (listed forms.RightsLimit) ts ≡ Err faults.Right → NoRights ts
-unfolding said_at
-limit_said ts e =
+limit_event : (ts : List (List ℕ)) → event_at (listed forms.RightsLimit) ts ≡ Err faults.Right → NoRights ts
+unfolding event_at
+limit_event ts e =
     let k = counted_two (eqb (length ts) 2)
     (args_at (fd ∷ rights ∷ []) ts >>= λ given. built (listed forms.RightsLimit) given) e in
     elim (bind_err (args_at (fd ∷ rights ∷ []) ts)
@@ -420,8 +420,8 @@ right_item bytes text p is at e =
       | inl h ↦ absurd (let no = h in cc)
       | inr a ↦ elim (limit_or a.head) as (λ _. LimitsByNoRights bytes) [
         | inl h ↦ limit_parts bytes text p is at a h
-            (limit_said a.texts (ap (λ (g : Head). said_at g a.texts) (sym h) ∙ a.said))
-        | inr h ↦ absurd (let no = said_err no_right refl a.head a.texts faults.Right (h a.texts) a.said in cc)
+            (limit_event a.texts (ap (λ (g : Head). event_at g a.texts) (sym h) ∙ a.said))
+        | inr h ↦ absurd (let no = event_err no_right refl a.head a.texts faults.Right (h a.texts) a.said in cc)
       ]
     ]
 

@@ -29,7 +29,7 @@ use Rattle.cap_trace.specs.Entry.{fds, kind_of, IsPid, IsFd, IsWhole, RisesFrom}
 use Rattle.cap_trace.specs.Spelling.{SpellsArg, SpellsArgs, IsHead, IsProper, word_text, answer_text, tail_text, joined}
 use Rattle.cap_trace.specs.Forms.{Slot, these}
 use Rattle.cap_trace.specs.Reading.{◌>>=◌, after_prefix, fd_at, rights_at, dir_at, flags_at, command_at, path_at}
-use Rattle.cap_trace.specs.Reading.{arg_at, args_at, fds_from, shaped, said_at, result_at, made_at, answer_at, ended}
+use Rattle.cap_trace.specs.Reading.{arg_at, args_at, fds_from, shaped, event_at, result_at, made_at, answer_at, ended}
 use Rattle.cap_trace.specs.Reading.{args_and_tail, after_bracket, item_at, entry_at, line_of}
 use Rattle.cap_trace.specs.Spoiled.{AreAlike, Spoils, fault_of_arg, SpoilsOne, SpoiledArgument, answered}
 use Rattle.cap_trace.specs.Spoiled.{SpellsNoAnswer, FaultOfAnswer, SpoiledAnswer}
@@ -171,8 +171,8 @@ word_no u v w true s e = absurd (s.none (a_word w) tt ((bytes_eq-Decides u (word
 word_no u v w false s e = refl
 
 no_command : (t u v : List ℕ) (w : Word) → Spoils u (a_word w)
-    → said_at (listed forms.Fcntl) (t ∷ u ∷ v ∷ []) ≡ Err faults.Argument
-unfolding said_at
+    → event_at (listed forms.Fcntl) (t ∷ u ∷ v ∷ []) ≡ Err faults.Argument
+unfolding event_at
 no_command t u v w s =
     rw (
       word_no u w set_fd (bytes_eq u (codes "F_SETFD")) s refl,
@@ -195,16 +195,16 @@ word_or t u ts a b w others f h =
     ]
 
 command_spoiled : (w : Word) (x : ℕ) (b : Arg) → are_closed (an_fd x ∷ a_word w ∷ b ∷ []) ≡ true
-    → ((t v : List ℕ) → said_at (listed forms.Fcntl) (t ∷ word_text w ∷ v ∷ [])
+    → ((t v : List ℕ) → event_at (listed forms.Fcntl) (t ∷ word_text w ∷ v ∷ [])
     ≡ shaped (listed forms.Fcntl) (these (slots_of (an_fd x ∷ a_word w ∷ b ∷ []))) (t ∷ word_text w ∷ v ∷ []))
     → (ts : List (List ℕ)) (f : FirstFault) → SpoilsOne ts (an_fd x ∷ a_word w ∷ b ∷ []) f
-    → said_at (listed forms.Fcntl) ts ≡ Err f
+    → event_at (listed forms.Fcntl) ts ≡ Err f
 unfolding slot_of
 command_spoiled w x b closed same [] f h = absurd h
 command_spoiled w x b closed same (t ∷ u ∷ v ∷ []) f h =
     elim (word_or t u (v ∷ []) (an_fd x) b w
-    (b ∷ []) f h) as (λ _. said_at (listed forms.Fcntl) (t ∷ u ∷ v ∷ []) ≡ Err f) [
-      | inl e ↦ ap (λ (s : List ℕ). said_at (listed forms.Fcntl) (t ∷ s ∷ v ∷ [])) e ∙ same t v
+    (b ∷ []) f h) as (λ _. event_at (listed forms.Fcntl) (t ∷ u ∷ v ∷ []) ≡ Err f) [
+      | inl e ↦ ap (λ (s : List ℕ). event_at (listed forms.Fcntl) (t ∷ s ∷ v ∷ [])) e ∙ same t v
           ∙ these_spoiled (listed forms.Fcntl) (t ∷ word_text w ∷ v ∷ []) (an_fd x ∷ a_word w ∷ b ∷ []) f _ refl closed
           (subst (λ (s : List ℕ). SpoilsOne (t ∷ s ∷ v ∷ []) (an_fd x ∷ a_word w ∷ b ∷ []) f) e h)
       | inr k ↦ no_command t u v w k.0 ∙ ap Err (sym k.1)
@@ -213,8 +213,8 @@ command_spoiled w x b closed same ts f h =
     absurd (omega (arith, spoiled_many ts (an_fd x ∷ a_word w ∷ b ∷ []) f h))
 
 call_spoiled : (c : Call) (ts : List (List ℕ)) (f : FirstFault) → SpoilsOne ts (args_of_call c) f
-    → said_at (head_of_call c) ts ≡ Err f
-unfolding said_at slot_of is_closed
+    → event_at (head_of_call c) ts ≡ Err f
+unfolding event_at slot_of is_closed
 call_spoiled (calls.Other n a) [] f h = absurd h
 call_spoiled (calls.Other n a) (t ∷ ts) f h = absurd h
 call_spoiled (calls.Send c x) [] f h = absurd h
@@ -255,14 +255,14 @@ fds_spoiled low (t ∷ ts) (g ∷ gs) f h r =
       | inr s ↦ rw (fd_again t g s.0, le-ltb g low r.0, fds_spoiled (g + 1) ts gs f s.1 r.1) refl
     ]
 
-said_spoiled : (i : Item) (ts : List (List ℕ)) (f : FirstFault) → SpoilsOne ts (args_of i) f → IsWhole i
-    → said_at (head_of i) ts ≡ Err f
-unfolding said_at slot_of is_closed
-said_spoiled (items.Call c a) ts f h w = call_spoiled c ts f h
-said_spoiled (items.Start fs) ts f h w = rw (fds_spoiled 0 ts fs f h w) refl
-said_spoiled items.Exit [] f h w = absurd h
-said_spoiled items.Exit (t ∷ ts) f h w = absurd h
-said_spoiled (items.Foreign g) ts f h w = these_spoiled (listed forms.Foreign) ts (an_fd g ∷ []) f _ refl refl h
+event_spoiled : (i : Item) (ts : List (List ℕ)) (f : FirstFault) → SpoilsOne ts (args_of i) f → IsWhole i
+    → event_at (head_of i) ts ≡ Err f
+unfolding event_at slot_of is_closed
+event_spoiled (items.Call c a) ts f h w = call_spoiled c ts f h
+event_spoiled (items.Start fs) ts f h w = rw (fds_spoiled 0 ts fs f h w) refl
+event_spoiled items.Exit [] f h w = absurd h
+event_spoiled items.Exit (t ∷ ts) f h w = absurd h
+event_spoiled (items.Foreign g) ts f h w = these_spoiled (listed forms.Foreign) ts (an_fd g ∷ []) f _ refl refl h
 
 -- ---- the line
 
@@ -296,7 +296,7 @@ spoiled_after_bracket i ts tail f h w =
     let cut : args_and_tail (head_of i) (join_with_byte 44 ts ++ (41 ∷ tail)) ≡ Some (ts, tail) =
     ap (λ (x : Head). args_and_tail x (join_with_byte 44 ts ++ (41 ∷ tail))) k.1.0
     ∙ listed_args_and_tail k.0 ts tail (spoiled_parts ts (args_of i) f k.1.1 h) in
-    rw (cut, said_spoiled i ts f h w) refl
+    rw (cut, event_spoiled i ts f h w) refl
 
 -- the pid and the name of a line are read, whatever follows
 item_from : (h : Head) (rest : List ℕ) → IsHead h → item_at (name_of h ++ (40 ∷ rest)) ≡ after_bracket h rest

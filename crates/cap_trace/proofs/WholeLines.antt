@@ -24,8 +24,8 @@ use Rattle.cap_trace.specs.Fields.{is_free}
 use Rattle.cap_trace.specs.Quotes.{pieces, cut_at_byte, cut_outside}
 use Rattle.cap_trace.specs.Entry.{Entry, Arg, an_fd, args_of, args_of_call, fds, head_of, kind_of, IsPid, IsWhole}
 use Rattle.cap_trace.specs.Spelling.{Spells, SpellsArgs, IsHead, tail_text}
-use Rattle.cap_trace.specs.Forms.{Said, a_call, a_marker}
-use Rattle.cap_trace.specs.Reading.{◌>>=◌, need, pid_at, said_at, answer_at, ended, args_and_tail, after_bracket}
+use Rattle.cap_trace.specs.Forms.{Event, a_call, a_marker}
+use Rattle.cap_trace.specs.Reading.{◌>>=◌, need, pid_at, event_at, answer_at, ended, args_and_tail, after_bracket}
 use Rattle.cap_trace.specs.Reading.{item_at, entry_at, line_of}
 use Rattle.cap_trace.proofs.Cuts.{lacks, closes, AreParts, cut_takes, cut_again, outside_takes, outside_again}
 use Rattle.cap_trace.proofs.Cuts.{pieces_takes, pieces_again, closes-append}
@@ -34,7 +34,7 @@ use Rattle.cap_trace.proofs.Quiet.{weaken}
 use Rattle.cap_trace.proofs.Heads.{head_takes, head_again, head_lacks}
 use Rattle.cap_trace.proofs.Spelled.{ok_is, bind_made, pid_takes, pid_again, args_parts, is_closed, are_closed}
 use Rattle.cap_trace.proofs.Spelled.{fds_closed}
-use Rattle.cap_trace.proofs.Built.{said_args, said_head, SaidWhole, said_takes, call_again, start_again, exit_again}
+use Rattle.cap_trace.proofs.Built.{event_args, event_head, IsWholeEvent, event_takes, call_again, start_again, exit_again}
 use Rattle.cap_trace.proofs.Built.{foreign_again}
 use Rattle.cap_trace.proofs.Answered.{answer_takes, answer_again}
 
@@ -46,9 +46,9 @@ ended_ok true x y e = (refl, ok_is x y e)
 ended_ok false x y e = absurd cc
 
 -- what was said, with its answer
-pub record EndsItem (s : Said) (tail : List ℕ) (i : Item) : Type 0 where
-  pub args : args_of i ≡ said_args s
-  pub head : head_of i ≡ said_head s
+pub record EndsItem (s : Event) (tail : List ℕ) (i : Item) : Type 0 where
+  pub args : args_of i ≡ event_args s
+  pub head : head_of i ≡ event_head s
   pub whole : IsWhole i
   pub rest : tail ≡ tail_text i
 
@@ -59,7 +59,7 @@ marker_ends m tail i w b e =
     subst (λ (x : Item). EndsItem (a_marker m) tail x) k.1
     (record { args = refl; head = refl; whole = w; rest = b (eqb-true _ _ k.0) })
 
-ended_takes : (s : Said) (tail : List ℕ) (i : Item) → SaidWhole s → ended s tail ≡ Ok i → EndsItem s tail i
+ended_takes : (s : Event) (tail : List ℕ) (i : Item) → IsWholeEvent s → ended s tail ≡ Ok i → EndsItem s tail i
 unfolding ended
 ended_takes (a_call c) tail i w e =
     let a = bind_made (answer_at (kind_of c) tail) (λ a. items.Call c a) i e in
@@ -150,16 +150,16 @@ item_takes text i e =
     (λ cut. need faults.Shape (head_named cut.0) >>= λ h. after_bracket h cut.1) i e in
     let head = bind_ok (need faults.Shape (head_named cut.0.0)) (λ h. after_bracket h cut.0.1) i cut.2 in
     let args = bind_ok (need faults.Shape (args_and_tail head.0 cut.0.1))
-    (λ args. said_at head.0 args.0 >>= λ s. ended s args.1) i head.2 in
-    let said = bind_ok (said_at head.0 args.0.0) (λ s. ended s args.0.1) i args.2 in
+    (λ args. event_at head.0 args.0 >>= λ s. ended s args.1) i head.2 in
+    let said = bind_ok (event_at head.0 args.0.0) (λ s. ended s args.0.1) i args.2 in
     let name = head_takes cut.0.0 head.0 (need_ok faults.Shape (head_named cut.0.0) head.0 head.1) in
-    let spelled = said_takes head.0 args.0.0 said.0 said.1 in
+    let spelled = event_takes head.0 args.0.0 said.0 said.1 in
     let ends = ended_takes said.0 args.0.1 i spelled.whole said.2 in
     let same : head_of i ≡ head.0 = ends.head ∙ spelled.head in
     record {
       texts = args.0.0;
       head = subst IsHead {x = head.0} (sym same) name.1;
-      args = subst (λ (x : List Arg). SpellsArgs args.0.0 x) {x = said_args said.0} (sym ends.args) spelled.args;
+      args = subst (λ (x : List Arg). SpellsArgs args.0.0 x) {x = event_args said.0} (sym ends.args) spelled.args;
       whole = ends.whole;
       parts = cut_takes 40 text cut.0 (need_ok faults.Shape (cut_at_byte 40 text) cut.0 cut.1)
           ∙ ap (λ (n : List ℕ). n ++ (40 ∷ cut.0.1)) (sym name.0 ∙ ap name_of (sym same))
@@ -168,14 +168,14 @@ item_takes text i e =
           ∙ ap (λ (r : List ℕ). name_of (head_of i) ++ (40 ∷ (join_with_byte 44 args.0.0 ++ (41 ∷ r)))) ends.rest;
     }
 
-said_again : (i : Item) (ts : List (List ℕ)) → SpellsArgs ts (args_of i) → IsWhole i
-    → (said_at (head_of i) ts >>= λ s. ended s (tail_text i)) ≡ Ok i
+event_again : (i : Item) (ts : List (List ℕ)) → SpellsArgs ts (args_of i) → IsWhole i
+    → (event_at (head_of i) ts >>= λ s. ended s (tail_text i)) ≡ Ok i
 unfolding ended
-said_again (items.Call c a) ts h w = rw (call_again c ts h)
+event_again (items.Call c a) ts h w = rw (call_again c ts h)
     (ap (λ (r : Result Answer FirstFault). r >>= λ x. Ok (items.Call c x)) (answer_again (kind_of c) a w))
-said_again (items.Start fs) ts h w = rw (start_again fs ts h w) refl
-said_again items.Exit ts h w = rw (exit_again ts h) refl
-said_again (items.Foreign f) ts h w = rw (foreign_again f ts h) refl
+event_again (items.Start fs) ts h w = rw (start_again fs ts h w) refl
+event_again items.Exit ts h w = rw (exit_again ts h) refl
+event_again (items.Foreign f) ts h w = rw (foreign_again f ts h) refl
 
 item_again : (i : Item) (ts : List (List ℕ)) → IsHead (head_of i) → SpellsArgs ts (args_of i) → IsWhole i
     → item_at (name_of (head_of i) ++ (40 ∷ (join_with_byte 44 ts ++ (41 ∷ tail_text i)))) ≡ Ok i
@@ -185,7 +185,7 @@ item_again i ts n h w =
       cut_again 40 (name_of (head_of i)) (join_with_byte 44 ts ++ (41 ∷ tail_text i)) (head_lacks (head_of i) n),
       head_again (head_of i) n,
       between_again i ts h (tail_text i),
-    ) (said_again i ts h w)
+    ) (event_again i ts h w)
 
 -- ---- the line
 

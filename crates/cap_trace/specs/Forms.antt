@@ -78,12 +78,12 @@ shape_of (listed f) ts = form_shape f ts
 shape_of (unlisted n) ts = these (free ∷ [])
 
 -- a call without its answer, or a marker
-pub data Said : Type 0 where
-  a_call : Call → Said
-  a_marker : Item → Said
+pub data Event : Type 0 where
+  a_call : Call → Event
+  a_marker : Item → Event
 
 -- what a name says of arguments that have its shape
-abbrev pub built : Head → List Arg → Result Said FirstFault
+abbrev pub built : Head → List Arg → Result Event FirstFault
 built (listed (forms.OnFd c)) (an_fd x ∷ []) = Ok (a_call (calls.OnFd c x))
 built (listed (forms.Send c)) (an_fd x ∷ []) = Ok (a_call (calls.Send c x))
 built (listed (forms.Send c)) (an_fd x ∷ a_word dest ∷ []) = Ok (a_call (calls.SendTo c x))

@@ -24,7 +24,7 @@ use Rattle.cap_trace.specs.Entry.{Entry, Arg, an_fd, a_dir, some_flags, some_rig
 use Rattle.cap_trace.specs.Entry.{free_text, kind_of}
 use Rattle.cap_trace.specs.Spelling.{word_text, is_command}
 use Rattle.cap_trace.specs.Forms.{Slot, fd, dir, flags, rights, path, command, word, free, Shape, these, rising_fds}
-use Rattle.cap_trace.specs.Forms.{shape_of, Said, a_call, a_marker, built}
+use Rattle.cap_trace.specs.Forms.{shape_of, Event, a_call, a_marker, built}
 
 infixl 10 ◌>>=◌
 abbrev pub ◌>>=◌ : {A B : Type 0} → Result A FirstFault → (A → Result B FirstFault) → Result B FirstFault
@@ -115,13 +115,13 @@ fds_from low (t ∷ ts) = do
   fs ← (if nat_lt f low then Err faults.Argument else fds_from (f + 1) ts)
   Ok (f ∷ fs)
 
-abbrev pub shaped : Head → Shape → List (List ℕ) → Result Said FirstFault
+abbrev pub shaped : Head → Shape → List (List ℕ) → Result Event FirstFault
 shaped h rising_fds ts = fds_from 0 ts >>= λ fs. Ok (a_marker (items.Start fs))
 shaped h (these slots) ts = if length ts == length slots then (args_at slots ts >>= λ given. built h given)
     else Err faults.Argument
 
-unfoldable pub said_at : Head → List (List ℕ) → Result Said FirstFault
-said_at h ts = shaped h (shape_of h ts) ts
+unfoldable pub event_at : Head → List (List ℕ) → Result Event FirstFault
+event_at h ts = shaped h (shape_of h ts) ts
 
 -- ---- steps 6 and 7: what follows the arguments
 
@@ -167,7 +167,7 @@ answer_at k tail = do
   result_at k t (after_prefix (codes "-1 errno ") t)
 
 -- a marker ends after its bracket
-unfoldable pub ended : Said → List ℕ → Result Item FirstFault
+unfoldable pub ended : Event → List ℕ → Result Item FirstFault
 ended (a_call c) tail = answer_at (kind_of c) tail >>= λ a. Ok (items.Call c a)
 ended (a_marker i) tail = if length tail == 0 then Ok i else Err faults.Shape
 
@@ -182,7 +182,7 @@ args_and_tail (unlisted n) text = option_map (λ c. (c.0 ∷ [], c.1)) (cut_at_b
 abbrev pub after_bracket : Head → List ℕ → Result Item FirstFault
 after_bracket h text = do
   args ← need faults.Shape (args_and_tail h text)
-  said ← said_at h args.0
+  said ← event_at h args.0
   ended said args.1
 
 -- step 3: the name before that bracket

@@ -10,8 +10,8 @@ use Rattle.cap_trace.specs.declared.line.Call as code_call
 use Rattle.cap_trace.specs.declared.line.Call.TheVariants as view
 use Rattle.cap_trace.specs.declared.line.Item as code_item
 use Rattle.cap_trace.specs.declared.line.Item.TheVariants as view_items
-use Rattle.cap_trace.specs.declared.forms.Said as code_said
-use Rattle.cap_trace.specs.declared.forms.Said.TheVariants as view_said
+use Rattle.cap_trace.specs.declared.forms.Event as code_event
+use Rattle.cap_trace.specs.declared.forms.Event.TheVariants as view_event
 use Rattle.cap_trace.specs.Entry.{Arg, an_fd, a_dir, some_flags, some_rights, a_path, a_command, a_word}
 use Rattle.cap_trace.specs.Entry.{free_text, dest, set_fd, dup_to}
 use Rattle.cap_trace.specs.declared.args.ArgRef.{ArgRef}
@@ -19,7 +19,7 @@ use Rattle.cap_trace.specs.declared.args.ArgRef.TheVariants as view_args
 use Rattle.cap_trace.specs.declared.fault.FirstFault.{FirstFault}
 use Rattle.cap_trace.specs.declared.args.Arguments.{Arguments}
 use Rattle.cap_trace.specs.Arguments.{argument_items}
-use Rattle.cap_trace.specs.Forms.{Said, a_call, a_marker}
+use Rattle.cap_trace.specs.Forms.{Event, a_call, a_marker}
 use Rattle.cap_trace.specs.Quotes.{pieces}
 use Rattle.cap_trace.specs.Reading.{Gives, fd_at}
 
@@ -87,6 +87,6 @@ item_view (view_items.Start text) = items.Start (fds_spelled text.now)
 item_view view_items.Exit = items.Exit
 item_view (view_items.Foreign f) = items.Foreign f
 
-abbrev pub said_view : code_said.Said → Said
-said_view (view_said.Call c) = a_call (call_view c)
-said_view (view_said.Marker i) = a_marker (item_view i)
+abbrev pub event_view : code_event.Event → Event
+event_view (view_event.Call c) = a_call (call_view c)
+event_view (view_event.Marker i) = a_marker (item_view i)

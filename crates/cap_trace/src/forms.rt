@@ -1,13 +1,13 @@
 //! Reading the arguments of each form of call and marker. Nothing here takes memory.
-#![tactic(auto, unfolding(crate::specs::Reading::said_at, crate::specs::Reading::args_at, crate::specs::Reading::arg_at))]
+#![tactic(auto, unfolding(crate::specs::Reading::event_at, crate::specs::Reading::args_at, crate::specs::Reading::arg_at))]
 
 ghost use Rattle.std.specs.Prelude.{[], ◌∷◌, IsTrue};
 ghost use Rattle.cap_trace.specs.declared.calls.Form.TheVariants as forms;
 ghost use Rattle.cap_trace.specs.Names.{listed, unlisted};
 ghost use Rattle.cap_trace.specs.Quotes.{pieces};
 ghost use Rattle.cap_trace.specs.Forms.{a_call};
-ghost use Rattle.cap_trace.specs.Reading.{Gives, said_at, fds_from};
-ghost use Rattle.cap_trace.specs.Views.{call_view, said_view, fds_in, is_call_form};
+ghost use Rattle.cap_trace.specs.Reading.{Gives, event_at, fds_from};
+ghost use Rattle.cap_trace.specs.Views.{call_view, event_view, fds_in, is_call_form};
 
 use crate::args::Arguments::{Five, Four, One, Three, Two, Zero};
 use crate::calls::{DupCommand, Form, SendCall};
@@ -18,7 +18,7 @@ use crate::scan_fields::{command_of, dir_of, fd_of, flags_of, free_of, path_of, 
 
 /// A call without its answer, or a marker.
 #[derive(Clone, Copy)]
-pub(crate) enum Said<'a> {
+pub(crate) enum Event<'a> {
     Call(Call<'a>),
     Marker(Item<'a>),
 }
@@ -26,7 +26,7 @@ pub(crate) enum Said<'a> {
 /// `sendto(fd,DEST)`
 fn send_to<'a>(call: SendCall, fd: &[u8], word: &[u8]) -> Result<Call<'a>, FirstFault>
     ensures { Gives (λ c. a_call (call_view c)) result
-        (said_at (listed (forms.Send call)) (fd.now ∷ word.now ∷ [])) }
+        (event_at (listed (forms.Send call)) (fd.now ∷ word.now ∷ [])) }
 {
     let fd = fd_of(fd)?;
     if word != b"DEST".as_slice() {
@@ -38,7 +38,7 @@ fn send_to<'a>(call: SendCall, fd: &[u8], word: &[u8]) -> Result<Call<'a>, First
 /// `fcntl(fd,F_SETFD,flags)`, `fcntl(fd,F_DUP2FD,fd)`, `fcntl(fd,F_DUP2FD_CLOEXEC,fd)`
 fn fcntl_three<'a>(fd: &[u8], word: &[u8], third: &'a [u8]) -> Result<Call<'a>, FirstFault>
     ensures { Gives (λ c. a_call (call_view c)) result
-        (said_at (listed forms.Fcntl) (fd.now ∷ word.now ∷ third.now ∷ [])) }
+        (event_at (listed forms.Fcntl) (fd.now ∷ word.now ∷ third.now ∷ [])) }
 {
     if word == b"F_SETFD".as_slice() {
         return Ok(Call::FcntlSetFd(fd_of(fd)?, flags_of(third)?));
@@ -72,7 +72,7 @@ fn rising(args: &[u8]) -> Result<(), FirstFault>
 
 /// The arguments of a call that has no form of its own.
 pub(crate) fn other<'a>(name: &'a [u8], args: &'a [u8]) -> Result<Call<'a>, FirstFault>
-    ensures { Gives (λ c. a_call (call_view c)) result (said_at (unlisted name.now) (args.now ∷ [])) }
+    ensures { Gives (λ c. a_call (call_view c)) result (event_at (unlisted name.now) (args.now ∷ [])) }
 {
     Ok(Call::Other(name, free_of(args)?))
 }
@@ -80,7 +80,7 @@ pub(crate) fn other<'a>(name: &'a [u8], args: &'a [u8]) -> Result<Call<'a>, Firs
 /// What a call says of one argument.
 fn call_of_one<'a>(form: Form, text: &'a [u8]) -> Result<Call<'a>, FirstFault>
     requires { IsTrue (is_call_form form) }
-    ensures { Gives (λ c. a_call (call_view c)) result (said_at (listed form) (text.now ∷ [])) }
+    ensures { Gives (λ c. a_call (call_view c)) result (event_at (listed form) (text.now ∷ [])) }
 {
     match form {
         Form::OnFd(call) => Ok(Call::OnFd(call, fd_of(text)?)),
@@ -94,7 +94,7 @@ fn call_of_one<'a>(form: Form, text: &'a [u8]) -> Result<Call<'a>, FirstFault>
 /// What a call says of two arguments.
 fn call_of_two<'a>(form: Form, first: &'a [u8], second: &'a [u8]) -> Result<Call<'a>, FirstFault>
     requires { IsTrue (is_call_form form) }
-    ensures { Gives (λ c. a_call (call_view c)) result (said_at (listed form) (first.now ∷ second.now ∷ [])) }
+    ensures { Gives (λ c. a_call (call_view c)) result (event_at (listed form) (first.now ∷ second.now ∷ [])) }
 {
     match form {
         Form::Send(call) => send_to(call, first, second),
@@ -118,7 +118,7 @@ fn call_of_three<'a>(
 ) -> Result<Call<'a>, FirstFault>
     requires { IsTrue (is_call_form form) }
     ensures { Gives (λ c. a_call (call_view c)) result
-        (said_at (listed form) (first.now ∷ second.now ∷ third.now ∷ [])) }
+        (event_at (listed form) (first.now ∷ second.now ∷ third.now ∷ [])) }
 {
     match form {
         Form::AtFlags(call) => Ok(Call::AtFlags(
@@ -137,7 +137,7 @@ fn call_of_three<'a>(
 /// What a call that has a form of its own says, of its arguments.
 fn call<'a>(form: Form, args: &'a [u8]) -> Result<Call<'a>, FirstFault>
     requires { IsTrue (is_call_form form) }
-    ensures { Gives (λ c. a_call (call_view c)) result (said_at (listed form) (pieces args.now)) }
+    ensures { Gives (λ c. a_call (call_view c)) result (event_at (listed form) (pieces args.now)) }
 {
     match (form, argument_parts(args)) {
         (Form::Bare(call), Some(Zero)) => Ok(Call::Bare(call)),
@@ -156,24 +156,24 @@ fn call<'a>(form: Form, args: &'a [u8]) -> Result<Call<'a>, FirstFault>
 }
 
 /// What a call or a marker that has a form of its own says, without its answer.
-pub(crate) fn said_of<'a>(form: Form, args: &'a [u8]) -> Result<Said<'a>, FirstFault>
-    ensures { Gives said_view result (said_at (listed form) (pieces args.now)) }
+pub(crate) fn event_of<'a>(form: Form, args: &'a [u8]) -> Result<Event<'a>, FirstFault>
+    ensures { Gives event_view result (event_at (listed form) (pieces args.now)) }
 {
     match form {
         Form::Start => {
             rising(args)?;
-            Ok(Said::Marker(Item::Start(args)))
+            Ok(Event::Marker(Item::Start(args)))
         }
         Form::Exit => match argument_parts(args) {
-            Some(Zero) => Ok(Said::Marker(Item::Exit)),
+            Some(Zero) => Ok(Event::Marker(Item::Exit)),
             _ => Err(FirstFault::Argument),
         },
         Form::Foreign => match argument_parts(args) {
-            Some(One(fd)) => Ok(Said::Marker(Item::Foreign(fd_of(fd)?))),
+            Some(One(fd)) => Ok(Event::Marker(Item::Foreign(fd_of(fd)?))),
             _ => Err(FirstFault::Argument),
         },
         _ => match call(form, args) {
-            Ok(call) => Ok(Said::Call(call)),
+            Ok(call) => Ok(Event::Call(call)),
             Err(fault) => Err(fault),
         },
     }

@@ -7,7 +7,7 @@ ghost use Rattle.cap_trace.specs.Views.{item_view};
 use crate::answers::answer;
 use crate::calls::Form;
 use crate::fault::FirstFault;
-use crate::forms::{Said, other, said_of};
+use crate::forms::{Event, event_of, other};
 use crate::limits::{LONGEST_LINE, Pid};
 use crate::line::Item;
 use crate::names::{Head, head_of};
@@ -22,13 +22,13 @@ fn listed_item<'a>(form: Form, rest: &'a [u8]) -> Result<Item<'a>, FirstFault>
     let Some((args, tail)) = cut_outside_quotes(b')', rest) else {
         return Err(FirstFault::Shape);
     };
-    match said_of(form, args) {
-        Ok(Said::Call(call)) => {
+    match event_of(form, args) {
+        Ok(Event::Call(call)) => {
             let answer = answer(call.kind(), tail)?;
             Ok(Item::Call { call, answer })
         }
-        Ok(Said::Marker(item)) if tail.is_empty() => Ok(item),
-        Ok(Said::Marker(_)) => Err(FirstFault::Shape),
+        Ok(Event::Marker(item)) if tail.is_empty() => Ok(item),
+        Ok(Event::Marker(_)) => Err(FirstFault::Shape),
         Err(fault) => Err(fault),
     }
 }

@@ -23,4 +23,4 @@ unfoldable pub cell_in_cells : Cells → ℕ → Cell
 cell_in_cells cells f = if nat_lt f 64 then in_shared in_leaf cells.low f
     else (if nat_le f largest_fd then in_written_cells cells.few
     (in_started cells.started (in_shared in_cells_1m cells.high f) f) f
-    else cells.far)
+    else cells.above)

@@ -21,7 +21,7 @@ abbrev pub known_of : Process → Added
 known_of process = record {
   pid = process.pid;
   mode = process.mode;
-  rest = process.cells.far;
+  rest = process.cells.above;
   cells = cells_below (cell_in_cells process.cells) top;
 }
 

@@ -121,23 +121,23 @@ is_child (ForkAs child g) p = p == child
 is_child effect p = false
 
 -- what is wanted of a process and of the child that its line makes
-abbrev pub gathered : Effect → ℕ → (ℕ → ℕ → OnExec → ℕ) → ℕ → OnExec → ℕ
-gathered (Fork child) me wanted f x = join (wanted me f x) (if child == me then 0 else wanted child f x)
-gathered (ForkAs child g) me wanted f x = join (wanted me f x) (if child == me then 0 else wanted child f x)
-gathered effect me wanted f x = wanted me f x
+abbrev pub wanted_in_either : Effect → ℕ → (ℕ → ℕ → OnExec → ℕ) → ℕ → OnExec → ℕ
+wanted_in_either (Fork child) me wanted f x = join (wanted me f x) (if child == me then 0 else wanted child f x)
+wanted_in_either (ForkAs child g) me wanted f x = join (wanted me f x) (if child == me then 0 else wanted child f x)
+wanted_in_either effect me wanted f x = wanted me f x
 
-abbrev pub gathered_blocked : Effect → ℕ → (ℕ → Option ℕ) → Option ℕ
-gathered_blocked (Fork child) me blocked = earlier (blocked me) (if child == me then None else blocked child)
-gathered_blocked (ForkAs child g) me blocked = earlier (blocked me) (if child == me then None else blocked child)
-gathered_blocked effect me blocked = blocked me
+abbrev pub blocked_in_either : Effect → ℕ → (ℕ → Option ℕ) → Option ℕ
+blocked_in_either (Fork child) me blocked = earlier (blocked me) (if child == me then None else blocked child)
+blocked_in_either (ForkAs child g) me blocked = earlier (blocked me) (if child == me then None else blocked child)
+blocked_in_either effect me blocked = blocked me
 
 -- what is wanted before a line of process me with this requirement and this effect
 abbrev pub wanted_before : Requirement → Effect → ℕ → (ℕ → ℕ → OnExec → ℕ) → ℕ → ℕ → OnExec → ℕ
 wanted_before d effect me wanted p f x =
-    if p == me then with_requirement d (undone effect (gathered effect me wanted)) f x
+    if p == me then with_requirement d (undone effect (wanted_in_either effect me wanted)) f x
     else if is_child effect p then 0 else wanted p f x
 
 abbrev pub blocked_before : Requirement → Effect → ℕ → ℕ → (ℕ → Option ℕ) → ℕ → Option ℕ
 blocked_before d effect at me blocked p =
-    if p == me then blocked_with d at (unblocked effect (gathered_blocked effect me blocked))
+    if p == me then blocked_with d at (unblocked effect (blocked_in_either effect me blocked))
     else if is_child effect p then None else blocked p

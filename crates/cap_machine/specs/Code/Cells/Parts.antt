@@ -1,4 +1,4 @@
--- The cell of a descriptor in a leaf and in a node, which may have something pending for each of its parts.
+-- The cell of a descriptor in a leaf and in a node, which may have something deferred for each of its parts.
 use Rattle.std.specs.Prelude.{ℕ, List, ◌/◌, ◌%◌, slice_get, slice_index_or}
 use Rattle.std.specs.Option.{option_map_or}
 use Rattle.cap_machine.specs.declared.cell.Cell.{Cell}

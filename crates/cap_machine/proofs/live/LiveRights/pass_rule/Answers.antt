@@ -1,6 +1,6 @@
 use Rattle.std.proofs.Common.{ℕ, Option, None, if◌then◌else◌}
 use Rattle.std.proofs.lemmas.Result.{on_ok_weaker}
-use Rattle.cap_machine.specs.Code.Wanted.{wanted, blocked, gathered_blocked, is_child, unblocked, blocked_with}
+use Rattle.cap_machine.specs.Code.Wanted.{wanted, blocked, blocked_in_either, is_child, unblocked, blocked_with}
 use Rattle.cap_machine.proofs.LiveBack.{before_rule, by_own, live_before}
 use Rattle.cap_machine.proofs.BlockedBack.{blocked_line}
 use Rattle.cap_machine.proofs.live.LiveRights.pass_rule.Goals as goal
@@ -19,7 +19,7 @@ returns-clause-blocked c = λ line rule.
     on_ok_weaker c.pass_own.result
     (λ is later first. blocked_line line c.args.requirement.now c.args.effect.now c.args.at c.args.me
     (blocked c.args.self.now) (blocked c.pass_own.new.self) later rule.judged rule.owner rule.turns
-    (λ p. by_own c.args.me p (gathered_blocked c.args.effect.now c.args.me (blocked c.args.self.now))
+    (λ p. by_own c.args.me p (blocked_in_either c.args.effect.now c.args.me (blocked c.args.self.now))
     (blocked c.pass_own.new.self p) (blocked c.gather.new.self)
     (λ q. if is_child c.args.effect.now q then None else blocked c.args.self.now q)
     (λ (b : Option ℕ). blocked_with c.args.requirement.now c.args.at (unblocked c.args.effect.now b))

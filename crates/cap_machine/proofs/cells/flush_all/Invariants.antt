@@ -4,7 +4,7 @@ use Rattle.cap_machine.specs.Code.Cells.Parts.{in_shared}
 use Rattle.cap_machine.specs.Code.Cells.Cells1M.{in_cells_1m}
 use Rattle.cap_machine.specs.Code.Cells.Started.{in_started}
 use Rattle.cap_machine.specs.Code.Cells.WrittenCells.{after_writes}
-use Rattle.cap_machine.proofs.cells.settle_all.Given as goal
+use Rattle.cap_machine.proofs.cells.flush_all.Given as goal
 
 abbrev pub invariant-loop-one : goal.invariant-loop-one
 invariant-loop-one l = (f : ℕ) → IsFd f
