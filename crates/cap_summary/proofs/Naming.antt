@@ -12,7 +12,7 @@ use Rattle.cap_summary.proofs.{ap, arith, eq-eqb, ne_eqb, sym, ◌∙◌}
 use Rattle.cap_summary.specs.{declared.base.DefaultCells.DefaultCells, declared.precondition.Precondition.Precondition}
 use Rattle.cap_summary.specs.{Touch, declared.effect.Effect.Effect, declared.effect.Row.Row, declared.value.Value.Value}
 use Rattle.cap_summary.specs.{Names.IsListedWithin, Names.item_answers_fd, Preconditions.AllSaid, Preconditions.Within}
-use Rattle.cap_summary.specs.{Names.DemandWithin, Names.line_names_fd, Names.others_within, declared.key.Key.Key, given}
+use Rattle.cap_summary.specs.{Names.RequirementWithin, Names.line_names_fd, Names.others_within, declared.key.Key.Key, given}
 use Rattle.cap_summary.specs.{Keys.reads_within, Names.EffectWithin, Names.IsRowWithin, Names.mode_within, Sorted.found}
 use Rattle.cap_summary.specs.{Names.AreAmong, Names.LineWithin, Names.RowWithin, Names.answers_fd, Names.has_cell}
 use Rattle.cap_summary.specs.{Names.Names, Names.has_key, Names.names_in, Op, effect_touch, fds_spelled, slice_index_or}
@@ -368,7 +368,7 @@ module _ (step : Step) (t : List Step) where
     fds = λ k d lt. fd_in _ (named_one_by_one step line does k d lt);
   }
 
-  pub requirement_in : DemandWithin named step.line.pid (requirement step.line)
+  pub requirement_in : RequirementWithin named step.line.pid (requirement step.line)
   requirement_in = record {
     own = own_in;
     checks = λ k d lt. fd_in _ (or_first (args_name _ step.line) (item_answers_fd _ step.line.item)

@@ -96,6 +96,6 @@ abbrev pub ChecksWithin : Names → Checks → Type 0
 ChecksWithin names checks = All (λ (check : Check). names.fds check.fd ≡ true) (listed checks)
 
 -- the process of a line, and those descriptors
-pub record DemandWithin (names : Names) (me : ℕ) (requirement : Requirement) : Type 0 where
+pub record RequirementWithin (names : Names) (me : ℕ) (requirement : Requirement) : Type 0 where
   pub own : names.pids me ≡ true
   pub checks : ChecksWithin names requirement.checks

@@ -4,7 +4,7 @@ ghost use Rattle.std.specs.Prelude.{if◌then◌else◌, length, true, ◌&&◌,
 ghost use Rattle.cap_summary.specs.{Check, LimitWord, State, declared.key.Key.Key, findings_of, list_any, listed};
 ghost use Rattle.cap_summary.specs.Asks.{AreWithin, AskWithin, any_holds, asked_holds, holds, is_refusal, refusals_in};
 ghost use Rattle.cap_summary.specs.Asks.{asks_in, asks_of, has_any, has_kind, is_lacked, lacks};
-ghost use Rattle.cap_summary.specs.Names.{ChecksWithin, DemandWithin, Names};
+ghost use Rattle.cap_summary.specs.Names.{ChecksWithin, RequirementWithin, Names};
 ghost use Rattle.cap_summary.specs.Keys.{Cells, cells_of, mode_cell};
 
 use crate::{Ask, Key, Kinds, UpToThree};
@@ -104,7 +104,7 @@ impl LineAsks {
     pub fn of_line(me: Pid, requirement: &Requirement) -> LineAsks
         ensures holds { (s : State) → asked_holds (cells_of s) result ≡ has_any (findings_of requirement.now me s) }
         ensures refusals { refusals_in result ≤ (if is_refusal requirement.now.reply then 1 else 0) }
-        ensures names { (names : Names) → DemandWithin names me requirement.now
+        ensures names { (names : Names) → RequirementWithin names me requirement.now
             → AreWithin names (asks_in result) }
     {
         match (requirement.reply, requirement.class) {
