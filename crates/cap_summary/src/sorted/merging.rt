@@ -70,8 +70,8 @@ fn first_key<L, R>(lefts: &[(u32, L)], rights: &[(u32, R)]) -> Option<u32>
     ensures end { IfNone result ((lefts.now ≡ []) × (rights.now ≡ [])) }
 {
     match (lefts, rights) {
-        ([a, ..], [b, ..]) if b.0 < a.0 => Some(b.0),
-        ([a, ..], _) => Some(a.0),
+        ([a, ..], [b, ..]) => Some(a.0.min(b.0)),
+        ([a, ..], []) => Some(a.0),
         ([], [b, ..]) => Some(b.0),
         ([], []) => None,
     }
