@@ -1,6 +1,6 @@
 -- Asks and refusals that `==` finds equal are the same.
-use Rattle.std.specs.{Option.option_eq, Option.option_copied}
-use Rattle.std.proofs.{Math.Bool.beq, lemmas.Bool.and_parts}
+use Rattle.std.{specs.Option.option_eq, specs.Option.option_copied, proofs.Math.Bool.beq, proofs.lemmas.Bool.and_parts}
+use mathlib.Core.Bool.{false≢true}
 use Rattle.std.specs.Prelude.{◌≡◌, ◌&&◌, ◌∷◌, Bool, true, false, refl, Option, Some, None, ℕ, List, [], eqb}
 use Rattle.cap_summary.specs.{pointwise, Cell, Held, HeldOp, Op, declared.ask.Ask.Ask, declared.base.Base.Base}
 use Rattle.cap_summary.specs.{declared.effect.Row.Row, declared.key.Key.Key, declared.kinds.Kinds.Kinds}
@@ -100,7 +100,7 @@ same_value (Value.Of p k a) (Value.Of q l b) is =
     let pid = and_parts (eqb p q) _ is in
     let more = and_parts (keys.eq-value.it k l) _ pid.1 in
     grind (arith, eqb-true p q pid.0, same_key k l more.0, same_op a b more.1)
-same_value a b is = absurd cc
+same_value a b is = absurd (false≢true is)
 
 same_base : (a b : Base) → bases.eq-value.it a b ≡ true → a ≡ b
 same_base a b is = search rules
