@@ -69,11 +69,11 @@ fn first_key<L, R>(lefts: &[(u32, L)], rights: &[(u32, R)]) -> Option<u32>
     ensures one { IfSome result (λ key. (is_some (found lefts.now key) || is_some (found rights.now key)) ≡ true) }
     ensures end { IfNone result ((lefts.now ≡ []) × (rights.now ≡ [])) }
 {
-    match (lefts, rights) {
-        ([a, ..], [b, ..]) => Some(a.0.min(b.0)),
-        ([a, ..], []) => Some(a.0),
-        ([], [b, ..]) => Some(b.0),
-        ([], []) => None,
+    match (lefts.split_first(), rights.split_first()) {
+        (Some((a, _)), Some((b, _))) => Some(a.0.min(b.0)),
+        (Some((a, _)), None) => Some(a.0),
+        (None, Some((b, _))) => Some(b.0),
+        (None, None) => None,
     }
 }
 
