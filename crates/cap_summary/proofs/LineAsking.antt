@@ -4,9 +4,8 @@ use Rattle.cap_machine.specs.{declared.rule.Class.Class, Judge.forbidden, Judge.
 use Rattle.cap_machine.specs.{declared.verdict.Finding.TheVariants.Refusal}
 use Rattle.cap_summary.specs.{Asks.has_any, Asks.has_kind, Keys.mode_cell, Names.ChecksWithin, Names.Names, Requirement}
 use Rattle.cap_summary.specs.{Cell, Checks, LimitWord, NotCapable, all_excused, faults, has_check, is_outside, list_any}
-use Rattle.cap_summary.specs.{Check, Mode, fault, listed}
+use Rattle.cap_summary.{specs.Check, specs.Mode, specs.fault, specs.listed, proofs.arith, proofs.sym}
 use Rattle.cap_summary.specs.declared.kinds.TheConstants.Kinds.{CLOSED, UNHELD}
-use Rattle.cap_summary.proofs.{arith, sym}
 
 pub has_any-append : {X : Type 0} (xs ys : List X) → has_any (xs ++ ys) ≡ (has_any xs || has_any ys)
 has_any-append xs ys = grind arith

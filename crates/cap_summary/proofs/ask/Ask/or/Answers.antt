@@ -1,5 +1,4 @@
-use Rattle.cap_summary.specs.{refl, declared.ask.Ask.Ask}
-use Rattle.cap_summary.proofs.{TestPassing.passes_either}
+use Rattle.cap_summary.{specs.refl, specs.declared.ask.Ask.Ask, proofs.TestPassing.passes_either}
 use Rattle.cap_summary.proofs.ask.Ask.or.Goals as goal
 
 pub returns-clause-holds : goal.returns-clause-holds

@@ -1,5 +1,4 @@
-use Rattle.cap_summary.specs.{Asks.kind_of}
-use Rattle.cap_summary.proofs.{join_holds}
+use Rattle.cap_summary.{specs.Asks.kind_of, proofs.join_holds}
 use Rattle.cap_summary.proofs.kinds.Kinds.join.Goals as goal
 
 pub returns : goal.returns

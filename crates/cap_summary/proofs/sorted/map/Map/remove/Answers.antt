@@ -1,6 +1,4 @@
-use Rattle.std.proofs.Common.{rules}
-use Rattle.cap_summary.specs.Sorted.{IsAt}
-use Rattle.cap_summary.proofs.SortedFound.{found-remove}
+use Rattle.cap_summary.{specs.Sorted.IsAt, proofs.SortedFound.found-remove, proofs.rules}
 use Rattle.cap_summary.proofs.sorted.map.Map.remove.Goals as goal
 
 pub returns-in-Ok-clause-others : goal.returns-in-Ok-clause-others
