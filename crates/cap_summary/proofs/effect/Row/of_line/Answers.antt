@@ -3,9 +3,8 @@ use Rattle.cap_summary.specs.{Names.has_cell, refl}
 use Rattle.cap_summary.proofs.effect.Row.of_line.Goals as goal
 
 pub returns-in_ok-started_cells-in-Start-clause-cells : goal.returns-in_ok-started_cells-in-Start-clause-cells
-returns-in_ok-started_cells-in-Start-clause-cells c = started_row c.args.line.now c.in-Start.fds c.args.me c.of.result
-    c.of-in-Start.result _ c.in-Start.is (λ cells f. c.of.ensures.cells cells c.args.me f)
-    (λ cells. c.of-in-Start.ensures.reads cells ∙ c.cell_of_mode.ensures.cell)
+returns-in_ok-started_cells-in-Start-clause-cells c = started_row _ _ _ _ _ _ c.in-Start.is
+    (λ s. c.of.ensures.cells s c.args.me) (λ s. c.of-in-Start.ensures.reads s ∙ c.cell_of_mode.ensures.cell)
     c.in_ok-started_cells-in-Start.ensures.cells
 
 pub returns-in_ok-started_cells-in-Start-clause-names : goal.returns-in_ok-started_cells-in-Start-clause-names
