@@ -249,11 +249,10 @@ impl Node {
             (left.now.known ≡ Some both.0.now) × (right.now.known ≡ Some both.1.now)) }
         ensures many { IfNone result (NameOrRefuseMany (left.now.steps ++ right.now.steps)) }
     {
-        let (first, second) = (left.known()?, right.known()?);
-        if are_large(first, second) {
-            return None;
+        match (left.known(), right.known()) {
+            (Some(first), Some(second)) if !are_large(first, second) => Some((first, second)),
+            _ => None,
         }
-        Some((first, second))
     }
 
     /// The node of two parts that have steps, with what is known of them.
