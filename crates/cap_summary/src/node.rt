@@ -223,21 +223,17 @@ impl Node {
         ensures composed { IfOk result (λ new. NodesCompose left.now.value right.now.value new.0.value) }
         ensures alike { IfOk result (λ new. IfKept (AreAlike new.1) old.now new.0.value) }
     {
-        let (Some(whole), Some(part), Some((first, second))) = (
-            old.known(),
-            was.known(),
-            Node::known_of_both(left, right),
-        ) else {
-            return Ok((Node::join(alloc, left, right)?, Similarity::none()));
-        };
-        if left.len() == 0 || right.len() == 0 || was.len() == 0 {
-            return Ok((Node::join(alloc, left, right)?, Similarity::none()));
+        match (old.known(), was.known(), Node::known_of_both(left, right)) {
+            (Some(whole), Some(part), Some((first, second)))
+                if left.len() != 0 && right.len() != 0 && was.len() != 0 => {
+                let (known, similarity) = Known::rejoin(
+                    alloc, first, second, whole, part, side, similarity,
+                )?;
+                let node = Node::of_parts(alloc, Some(known), left, right)?;
+                Ok((node, similarity))
+            }
+            _ => Ok((Node::join(alloc, left, right)?, Similarity::none())),
         }
-        let (known, similarity) = Known::rejoin(
-            alloc, first, second, whole, part, side, similarity,
-        )?;
-        let node = Node::of_parts(alloc, Some(known), left, right)?;
-        Ok((node, similarity))
     }
 
     /// What is known of two parts, where it may be kept of both together.
