@@ -187,7 +187,8 @@ impl<S: Segment> Node<S> {
             let lower = Node::branch(alloc, meter, side, inner, low)?;
             return Node::branch(alloc, meter, side, outer, lower);
         }
-        let (near, far) = inner.parts(side)?;
+        let middle: &Node<S> = &inner;
+        let (near, far) = middle.parts(side)?;
         let front = Node::branch(alloc, meter, side, outer, near)?;
         let back = Node::branch(alloc, meter, side, far, low)?;
         Node::branch(alloc, meter, side, front, back)

@@ -1,5 +1,5 @@
 //! Runs of shared items, as a leaf holds them, and edits of them. Each is made with room for its items and no more.
-ghost use Rattle.std.specs.Prelude.{◌≡◌, ◌+◌, ◌^◌, ◌<◌, ◌≤◌, [], ◌∷◌, ◌++◌, length, IfOk, OnOk};
+ghost use Rattle.std.specs.Prelude.{◌≡◌, ◌+◌, ◌^◌, ◌<◌, ◌≤◌, [], ◌∷◌, ◌++◌, length, vec_len, IfOk, OnOk};
 ghost use Rattle.cap_tree.specs.Edits.{edited, IsAllowed};
 ghost use Rattle.cap_tree.specs.Run.{values};
 
@@ -25,7 +25,8 @@ fn share<T: Drop>(run: &mut Vec<Rc<T>>, more: &[Rc<T>]) -> Result<(), NoMemory>
 
 /// A run of one item.
 pub(crate) fn single<T: Drop>(alloc: Global, item: Rc<T>) -> Result<Vec<Rc<T>>, NoMemory>
-    ensures { IfOk result (λ run. values run.items ≡ item.value ∷ []) }
+    ensures item { IfOk result (λ run. values run.items ≡ item.value ∷ []) }
+    ensures one { IfOk result (λ run. vec_len run ≡ 1) }
 {
     let mut run = Vec::with_capacity(alloc, 1)?;
     run.push(item)?;
