@@ -7,7 +7,7 @@ use Rattle.cap_trace.specs.Entry.{Entry}
 use Rattle.cap_machine.specs.Steps.{steps}
 use Rattle.cap_machine.specs.Questions.{answer}
 use Rattle.cap_session.specs.Devices.{SourceState}
-use Rattle.cap_session.specs.Trace.{trace, soon, next_entry}
+use Rattle.cap_session.specs.Trace.{trace, trace_so_far, next_entry}
 use Rattle.cap_session.specs.Reads.{IsEnded, IsGood}
 use Rattle.cap_session.specs.AnswerStreams.{IsPrefix}
 use Rattle.cap_session.specs.Outcome.{refused_as}
@@ -23,15 +23,15 @@ use Rattle.cap_session.specs.declared.refused.Input.TheVariants.{Trace}
 use Rattle.cap_session.specs.declared.refused.Refusal.{Refusal}
 use Rattle.cap_session.specs.declared.outcome.Outcome.TheVariants.{Clean, Findings, Refused, StartRefused, Memory}
 use Rattle.cap_session.specs.declared.outcome.Outcome.TheVariants.{ReadFault, WriteFault, TooLong}
-use Rattle.cap_session.proofs.Soon.{soon_after, whole_after, whole_too}
+use Rattle.cap_session.proofs.SoFar.{so_far_after, whole_after, whole_too}
 
 pub beginning_decides : BeginningDecides
 beginning_decides begin rest e is =
-    (soon_after next_entry [] begin rest e is, whole_after next_entry [] begin rest e is)
+    (so_far_after next_entry [] begin rest e is, whole_after next_entry [] begin rest e is)
 
 -- a line that is refused before the end or at it
 abbrev pub Line : Type 0 → List ℕ → Refusal → Type 0
-Line seen given e = (soon given ≡ Some e) ⊎ (seen × (trace given ≡ Err e))
+Line seen given e = (trace_so_far given ≡ Some e) ⊎ (seen × (trace given ≡ Err e))
 
 refused_whole : (seen : Type 0) (given : List ℕ) (e : Refusal) → Line seen given e → trace given ≡ Err e
 refused_whole seen given e (inl is) = whole_too next_entry [] given e is
@@ -96,7 +96,7 @@ good_is_reported question profile start turns r0 r1 w0 w1 WriteFault entries cal
       | inr is ↦ absurd (not_both _ entries _ good (refused_whole _ call.given _ is.1.line.line))
     ]
 
-not_open : (r0 r1 : SourceState) (given : List ℕ) (e : Refusal) → r1.ends ≡ r0.ends → soon given ≡ None
+not_open : (r0 r1 : SourceState) (given : List ℕ) (e : Refusal) → r1.ends ≡ r0.ends → trace_so_far given ≡ None
     → Line (IsEnded r0 r1) given e → ⊥
 not_open r0 r1 given e going good (inl is) =
     let no = sym good ∙ is in
@@ -110,7 +110,7 @@ bad_is_not_ok (Ok entries) e is ok = cc
 bad_is_not_ok (Err f) e is ok = cc
 
 -- no line is refused where none is
-not_good : (seen : Type 0) (given : List ℕ) (e : Refusal) → IsGood trace soon seen given → Line seen given e → ⊥
+not_good : (seen : Type 0) (given : List ℕ) (e : Refusal) → IsGood trace trace_so_far seen given → Line seen given e → ⊥
 not_good seen given e good (inl is) =
     let no = sym good.before ∙ is in
     cc

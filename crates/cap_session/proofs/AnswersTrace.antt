@@ -7,7 +7,7 @@ use Rattle.cap_session.specs.AnswerStreams.{Kind, of_trace, SaysOf, Says, nothin
 use Rattle.cap_session.specs.AnswerStreams.{AnswerStreams, Rejected, Taken}
 use Rattle.cap_session.specs.Devices.{SourceState, SinkState}
 use Rattle.cap_session.specs.Outcome.{found, refused_as, explain_read_faults, explain_write_faults}
-use Rattle.cap_session.specs.Trace.{trace, soon, next_entry}
+use Rattle.cap_session.specs.Trace.{trace, trace_so_far, next_entry}
 use Rattle.cap_session.specs.Reads.{Reads, IsEnded, IsGood, faults}
 use Rattle.cap_session.specs.Refusal.{refusal_text}
 use Rattle.cap_session.specs.Code.Works.{EndsCall, Writes, WritesAnswer}
@@ -24,14 +24,14 @@ use Rattle.cap_session.specs.declared.outcome.ExplainOutcome.{ExplainOutcome}
 use Rattle.cap_session.specs.declared.outcome.ExplainOutcome.TheVariants.{Ended, OutOfRange}
 use Rattle.cap_session.proofs.Calls.{appends_none}
 use Rattle.cap_session.proofs.ReadsAs.{reads_as}
-use Rattle.cap_session.proofs.Soon.{good_soon}
+use Rattle.cap_session.proofs.SoFar.{good_so_far}
 use Rattle.cap_session.proofs.Texted.{goes_nowhere}
 
 -- no line is refused of a text that is a trace
 good_trace : {T : Type 0} (holds : T → List Entry → Type 0) (turns : ℕ) (r0 r1 : SourceState) (x : T)
-    → (r : Reads trace soon holds turns r0 r1 (Ok x)) → IsGood trace soon (IsEnded r0 r1) r.given
+    → (r : Reads trace trace_so_far holds turns r0 r1 (Ok x)) → IsGood trace trace_so_far (IsEnded r0 r1) r.given
 good_trace holds turns r0 r1 x r = record {
-  before = good_soon next_entry [] r.answer.1.0 r.given r.answer.1.1;
+  before = good_so_far next_entry [] r.answer.1.0 r.given r.answer.1.1;
   at_end = λ end. rw r.answer.1.1 refl;
 }
 
@@ -47,7 +47,7 @@ module _ {A : Type 0} (kind : Kind A) (says : SaysOf A) (turns : ℕ) (r0 r1 : S
     {T : Type 0} (holds : T → A → Type 0) where
   -- what was read and what was written, with the outcome
   streams : (o : ExplainOutcome) (x : Result T StopReason) (written : List ℕ)
-      → (r : Reads kind.whole kind.soon holds turns r0 r1 x) → Appends w0.taken w1.taken written
+      → (r : Reads kind.whole kind.so_far holds turns r0 r1 x) → Appends w0.taken w1.taken written
       → explain_read_faults o ≡ faults x → w1.failures ≡ w0.failures + explain_write_faults o
       → HasOutcome kind says turns r0 r1 r.given written o → AnswerStreams kind says turns r0 r1 w0 w1 o
   streams o x written r wrote reads writes answer = record {
@@ -62,14 +62,14 @@ module _ {A : Type 0} (kind : Kind A) (says : SaysOf A) (turns : ℕ) (r0 r1 : S
   }
 
   -- nothing was written
-  silent : (o : ExplainOutcome) (x : Result T StopReason) → (r : Reads kind.whole kind.soon holds turns r0 r1 x)
+  silent : (o : ExplainOutcome) (x : Result T StopReason) → (r : Reads kind.whole kind.so_far holds turns r0 r1 x)
       → w1 ≡ w0 → explain_read_faults o ≡ faults x → explain_write_faults o ≡ 0
       → HasOutcome kind says turns r0 r1 r.given [] o → AnswerStreams kind says turns r0 r1 w0 w1 o
   silent o x r kept reads writes answer =
       let same : w1.failures ≡ w0.failures = ap (λ (s : SinkState). s.failures) kept in
       streams o x [] r (rw kept (appends_none w0.taken)) reads (omega (arith, writes)) answer
 
-  line_refused : (e : Refusal) (o : Outcome) → Reads kind.whole kind.soon holds turns r0 r1 (Err (stops.Refused e))
+  line_refused : (e : Refusal) (o : Outcome) → Reads kind.whole kind.so_far holds turns r0 r1 (Err (stops.Refused e))
       → Writes (refusal_text kind.input e) (refused_as kind.input e) WriteFault w0 w1 o
       → AnswerStreams kind says turns r0 r1 w0 w1 (Ended o)
   line_refused e o r (inl w) =
@@ -85,7 +85,7 @@ module _ {A : Type 0} (kind : Kind A) (says : SaysOf A) (turns : ℕ) (r0 r1 : S
   line_refused e o r (inr w) = rw w.1 (streams (Ended WriteFault) _ w.0.front r w.0.taken refl w.0.failures
       (refusal_text kind.input e, (w.0.rest, w.0.cut), inr (e, record { line = r.answer; is = refl })))
 
-  pub answer_stopped : (stop : StopReason) (o : Outcome) → Reads kind.whole kind.soon holds turns r0 r1 (Err stop)
+  pub answer_stopped : (stop : StopReason) (o : Outcome) → Reads kind.whole kind.so_far holds turns r0 r1 (Err stop)
       → EndsCall kind.input stop w0 w1 o → AnswerStreams kind says turns r0 r1 w0 w1 (Ended o)
   answer_stopped (stops.Refused e) o r w = line_refused e o r w
   answer_stopped stops.Memory o r w =
@@ -108,7 +108,7 @@ nothing_read says turns r w =
 -- ---- the trace was read to its end
 
 module _ (says : Says) {T : Type 0} (holds : T → List Entry → Type 0) (turns : ℕ) (r0 r1 : SourceState)
-    (w0 w1 : SinkState) (x : T) (r : Reads trace soon holds turns r0 r1 (Ok x)) where
+    (w0 w1 : SinkState) (x : T) (r : Reads trace trace_so_far holds turns r0 r1 (Ok x)) where
   is_answer : (o : ExplainOutcome) (text : List ℕ) → says r.answer.1.0 o text
       → IsAnswer of_trace says (IsEnded r0 r1) r.given text o
   is_answer o text said =
@@ -159,13 +159,13 @@ none_written says text w0 w1 o is (inr w) = rw w.1 (OutOfRange, text, w.0, is)
 module _ {A : Type 0} (kind : Kind A) {T : Type 0} (holds : T → A → Type 0) (turns : ℕ) (x0 x1 : SourceState) where
   -- reading the first stopped
   pub first_rejected : (y : SourceState) (w0 w1 : SinkState) (stop : StopReason) (o : Outcome)
-      → Reads kind.whole kind.soon holds turns x0 x1 (Err stop) → EndsCall kind.input stop w0 w1 o
+      → Reads kind.whole kind.so_far holds turns x0 x1 (Err stop) → EndsCall kind.input stop w0 w1 o
       → Rejected kind turns x0 x1 y y w0 w1 (Ended o)
   first_rejected y w0 w1 stop o r w =
       record { stopped = answer_stopped kind nothing turns x0 x1 w0 w1 holds stop o r w; unread = refl }
 
   -- the first was read to its end, and then this was done
-  pub first_taken : (x : T) (then : A → Type 0) (a : A) → Reads kind.whole kind.soon holds turns x0 x1 (Ok x)
+  pub first_taken : (x : T) (then : A → Type 0) (a : A) → Reads kind.whole kind.so_far holds turns x0 x1 (Ok x)
       → ((known : A) → holds x known → a ≡ known) → then a → Taken kind turns x0 x1 then
   first_taken x then a r is done =
       let same = r.failures in
@@ -182,7 +182,7 @@ module _ {A : Type 0} (kind : Kind A) {T : Type 0} (holds : T → A → Type 0) 
 
 -- the trace was read to its end, and memory ran out before anything was done
 pub not_loaded : {T : Type 0} (holds : T → List Entry → Type 0) (turns : ℕ) (x0 x1 y : SourceState) (w : SinkState)
-    (x : T) → Reads trace soon holds turns x0 x1 (Ok x) → Rejected of_trace turns x0 x1 y y w w (Ended Memory)
+    (x : T) → Reads trace trace_so_far holds turns x0 x1 (Ok x) → Rejected of_trace turns x0 x1 y y w w (Ended Memory)
 not_loaded holds turns x0 x1 y w x r =
     first_rejected of_trace holds turns x0 x1 y w w stops.Memory Memory
     (reads_as r refl (good_trace holds turns x0 x1 x r)) (refl, refl)

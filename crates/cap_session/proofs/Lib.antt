@@ -19,7 +19,7 @@ pub mod ReadsAs
 pub mod Rejecting
 pub mod Replying
 pub mod Runs
-pub mod Soon
+pub mod SoFar
 pub mod Spelled
 pub mod Scripted
 pub mod Shared

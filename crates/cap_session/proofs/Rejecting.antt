@@ -8,7 +8,7 @@ use Rattle.cap_session.specs.Outcome.{outcome_of, read_faults}
 use Rattle.cap_session.specs.AnswerStreams.{of_trace}
 use Rattle.cap_session.specs.EditStreams.{EditStreams, RepliesToAll, Replies, IsOutcome, ScriptHasOutcome}
 use Rattle.cap_session.specs.Reads.{Reads, faults}
-use Rattle.cap_session.specs.Trace.{trace, soon}
+use Rattle.cap_session.specs.Trace.{trace, trace_so_far}
 use Rattle.cap_session.specs.declared.lines.StopReason.{StopReason}
 use Rattle.cap_session.specs.declared.lines.StopReason.TheVariants as stops
 use Rattle.cap_session.specs.declared.outcome.Outcome.{Outcome}
@@ -54,7 +54,7 @@ module _ (profile : Profile) (turns : ℕ) (s0 s1 : SourceState) (w0 w1 : SinkSt
 -- the trace was read to its end, and the script replied to
 pub script_taken : {T : Type 0} (profile : Profile) (holds : T → List Entry → Type 0) (turns : ℕ)
     (r0 r1 s0 s1 : SourceState) (w0 w1 : SinkState) (x : T) (p : Profile) (t : List Entry) (o : Outcome)
-    → Reads trace soon holds turns r0 r1 (Ok x) → ((known : List Entry) → holds x known → (p ≡ profile) × (t ≡ known))
+    → Reads trace trace_so_far holds turns r0 r1 (Ok x) → ((known : List Entry) → holds x known → (p ≡ profile) × (t ≡ known))
     → Replies p turns s0 s1 w0 w1 t o → EditStreams profile turns r0 r1 s0 s1 w0 w1 o
 script_taken profile holds turns r0 r1 s0 s1 w0 w1 x p t o r is script =
     let kept = is r.answer.1.0 r.answer.1.2 in

@@ -15,7 +15,7 @@ use Rattle.cap_session.specs.Reads.{faults}
 use Rattle.cap_session.specs.Code.Chunks.{TookScript, StoppedScript, EndedScript}
 use Rattle.cap_session.specs.declared.lines.StopReason.{StopReason}
 use Rattle.cap_session.specs.declared.lines.StopReason.TheVariants as stops
-use Rattle.cap_session.proofs.Soon.{any_long}
+use Rattle.cap_session.proofs.SoFar.{any_long}
 use Rattle.cap_session.proofs.Runs.{replied_none, replied_on, broken_on, is_long, is_short}
 use Rattle.cap_session.proofs.Joins.{cut, last_same, pieces_same, replied_same, broken_same}
 

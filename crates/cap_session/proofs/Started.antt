@@ -20,7 +20,7 @@ use Rattle.cap_session.specs.declared.start_fields.Head.{Head}
 use Rattle.cap_session.proofs.Cuts.{no_cut}
 use Rattle.cap_session.proofs.Lined.{line_good, line_bad, after_good, no_line}
 use Rattle.cap_session.proofs.Reach.{reached_first, reached_line, refused_line, lines_after, last_after}
-use Rattle.cap_session.proofs.Soon.{whole_too}
+use Rattle.cap_session.proofs.SoFar.{whole_too}
 
 -- ---- a line
 
@@ -116,11 +116,11 @@ through_bad T holds after bytes rest line left number e t cut takes =
     → TakesNumbered {T = T} (with_line next_process known l) after (number + 1) (Err e)) cut.begins takes r.known r.does in
     let one : record { reason = e.reason; line = number + 1 } ≡ e =
     ap (λ (n : ℕ). record { reason = e.reason; line = n }) (sym bad.1) in
-    let soon : refused_so_far next_process none_listed (t.front ++ rest) ≡ Some e =
+    let so_far : refused_so_far next_process none_listed (t.front ++ rest) ≡ Some e =
     refused_line next_process none_listed holds t.front [] rest number at e.reason r found bad.0
     ∙ ap (λ (x : Refusal). Some x) one in
     ap described_by t.cut
-    ∙ ap (good_as (λ (listed : Listed). listed.added)) (whole_too next_process none_listed (t.front ++ rest) e soon)
+    ∙ ap (good_as (λ (listed : Listed). listed.added)) (whole_too next_process none_listed (t.front ++ rest) e so_far)
 
 -- the last piece is a line, unless it is empty
 whole_end : (holds : Listed → Type 0) (bytes rest : List ℕ) (number : ℕ) → (t : Through holds bytes number rest)

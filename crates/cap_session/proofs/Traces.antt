@@ -5,7 +5,7 @@ use Rattle.cap_trace.specs.Entry.{Entry}
 use Rattle.cap_session.specs.Devices.{SourceState}
 use Rattle.cap_session.specs.Lines.{lines, lines_so_far}
 use Rattle.cap_session.specs.Texts.{with_line, with_lines, whole_text, refusal_of, refused_so_far}
-use Rattle.cap_session.specs.Trace.{next_entry, trace, soon}
+use Rattle.cap_session.specs.Trace.{next_entry, trace, trace_so_far}
 use Rattle.cap_session.specs.Code.Traced.{Setting, Traced, with_setting, next_traced, Holds}
 use Rattle.cap_session.specs.Reads.{Reads, IsNear}
 use Rattle.cap_session.specs.declared.refused.Refusal.{Refusal}
@@ -58,9 +58,9 @@ refusal_started : (s : Setting) (r : Result (List Entry) Refusal) → refusal_of
 refusal_started s (Ok entries) = refl
 refusal_started s (Err e) = refl
 
-soon_started : (s : Setting) (text : List ℕ)
-    → refused_so_far next_traced (record { setting = s; entries = [] }) text ≡ soon text
-soon_started s text = ap refusal_of (lines_started s [] 0 (lines_so_far text))
+so_far_started : (s : Setting) (text : List ℕ)
+    → refused_so_far next_traced (record { setting = s; entries = [] }) text ≡ trace_so_far text
+so_far_started s text = ap refusal_of (lines_started s [] 0 (lines_so_far text))
     ∙ refusal_started s (with_lines next_entry [] 0 (lines_so_far text))
 
 refused_started : (s : Setting) (e : Refusal) (r : Result (List Entry) Refusal) → started s r ≡ Err e → r ≡ Err e
@@ -77,13 +77,13 @@ known_started s known (Ok entries) is = (cc, cc)
 known_started s known (Err f) is = absurd (cc)
 
 near_started : (s : Setting) (given : List ℕ)
-    → IsNear (refused_so_far next_traced (record { setting = s; entries = [] })) given → IsNear soon given
+    → IsNear (refused_so_far next_traced (record { setting = s; entries = [] })) given → IsNear trace_so_far given
 near_started s given n = record {
   front = n.front;
   piece = n.piece;
   cut = n.cut;
   short = n.short;
-  good = sym (soon_started s n.front) ∙ n.good;
+  good = sym (so_far_started s n.front) ∙ n.good;
 }
 
 -- reading a text after a start, as reading the trace that it spells
@@ -91,24 +91,24 @@ pub read_stopped : {T U : Type 0} (holds : T → Traced → Type 0) (keeps : U �
     (turns : ℕ) (r0 r1 : SourceState) (stop : StopReason) →
     Reads (whole_text next_traced (record { setting = s; entries = [] }))
     (refused_so_far next_traced (record { setting = s; entries = [] })) holds turns r0 r1 (Err stop)
-    → Reads trace soon keeps turns r0 r1 (Err stop)
+    → Reads trace trace_so_far keeps turns r0 r1 (Err stop)
 read_stopped holds keeps s turns r0 r1 (stops.Refused e) r =
     reads_as r refl (record {
       line = elim r.answer.line [
-        | inl is ↦ inl (sym (soon_started s r.given) ∙ is)
+        | inl is ↦ inl (sym (so_far_started s r.given) ∙ is)
         | inr is ↦ inr (is.0, refused_started s e (trace r.given) (sym (whole_started s r.given) ∙ is.1))
       ];
       near = near_started s r.given r.answer.near;
     })
 read_stopped holds keeps s turns r0 r1 stops.Memory r =
     reads_as r refl (record {
-      before = sym (soon_started s r.given) ∙ r.answer.before;
+      before = sym (so_far_started s r.given) ∙ r.answer.before;
       at_end = λ seen. good_started s (trace r.given) (rw (whole_started s r.given) at (r.answer.at_end seen));
     })
 read_stopped holds keeps s turns r0 r1 stops.ReadFault r =
-    reads_as r refl (r.answer.0, sym (soon_started s r.given) ∙ r.answer.1)
+    reads_as r refl (r.answer.0, sym (so_far_started s r.given) ∙ r.answer.1)
 read_stopped holds keeps s turns r0 r1 stops.TooLong r =
-    reads_as r refl (r.answer.0, sym (soon_started s r.given) ∙ r.answer.1, r.answer.2)
+    reads_as r refl (r.answer.0, sym (so_far_started s r.given) ∙ r.answer.1, r.answer.2)
 read_stopped holds keeps s turns r0 r1 stops.WriteFault r = absurd r.answer
 
 pub read_whole : {T U : Type 0} (holds : T → Traced → Type 0) (keeps : U → Setting → List Entry → Type 0) (s : Setting)
@@ -116,7 +116,7 @@ pub read_whole : {T U : Type 0} (holds : T → Traced → Type 0) (keeps : U →
     → ((known : Traced) → holds x known → keeps u known.setting known.entries) →
     Reads (whole_text next_traced (record { setting = s; entries = [] }))
     (refused_so_far next_traced (record { setting = s; entries = [] })) holds turns r0 r1 (Ok x)
-    → Reads trace soon (λ (k : U) entries. keeps k s entries) turns r0 r1 (Ok u)
+    → Reads trace trace_so_far (λ (k : U) entries. keeps k s entries) turns r0 r1 (Ok u)
 read_whole holds keeps s turns r0 r1 x u is r =
     let known = r.answer.1.0 in
     let both = known_started s known (trace r.given) (sym (whole_started s r.given) ∙ r.answer.1.1) in
@@ -131,6 +131,6 @@ pub read_kept : {T K : Type 0} (holds : T → Traced → Type 0) (keeps : K → 
     → ((known : Traced) → holds x known → Holds keeps kept known) →
     Reads (whole_text next_traced (record { setting = s; entries = [] }))
     (refused_so_far next_traced (record { setting = s; entries = [] })) holds turns r0 r1 (Ok x)
-    → Reads trace soon (λ (k : K) entries. keeps k s entries) turns r0 r1 (ok_or kept stops.Memory)
+    → Reads trace trace_so_far (λ (k : K) entries. keeps k s entries) turns r0 r1 (ok_or kept stops.Memory)
 read_kept holds keeps s turns r0 r1 x (Some k) is r = read_whole holds keeps s turns r0 r1 x k is r
 read_kept holds keeps s turns r0 r1 x None is r = absurd (is r.answer.1.0 r.answer.1.2)

@@ -8,8 +8,8 @@ use Rattle.cap_session.specs.Devices.{SourceState, SinkState}
 use Rattle.cap_session.specs.Outcome.{refused_as, explain_read_faults, explain_write_faults}
 use Rattle.cap_session.specs.Reads.{IsEnded, NotAtEnd, UsedUp, IsGood, IsRefused}
 use Rattle.cap_session.specs.Refusal.{refusal_text}
-use Rattle.cap_session.specs.StartTexts.{described_by, start_soon}
-use Rattle.cap_session.specs.Trace.{trace, soon}
+use Rattle.cap_session.specs.StartTexts.{described_by, start_so_far}
+use Rattle.cap_session.specs.Trace.{trace, trace_so_far}
 use Rattle.cap_session.specs.declared.refused.Input.{Input}
 use Rattle.cap_session.specs.declared.refused.Input.TheVariants as inputs
 use Rattle.cap_session.specs.declared.refused.Refusal.{Refusal}
@@ -23,14 +23,14 @@ use Rattle.cap_session.specs.declared.outcome.ExplainOutcome.TheVariants.{Ended,
 -- A kind of text: what a whole one holds, or its first refused line; and that line where the end isn't reached.
 pub record Kind (A : Type 0) : Type 0 where
   pub whole : List ℕ → Result A Refusal
-  pub soon : List ℕ → Option Refusal
+  pub so_far : List ℕ → Option Refusal
   pub input : Input
 
 abbrev pub of_trace : Kind (List Entry)
-of_trace = record { whole = trace; soon = soon; input = inputs.Trace }
+of_trace = record { whole = trace; so_far = trace_so_far; input = inputs.Trace }
 
 abbrev pub of_start : Kind (List Added)
-of_start = record { whole = described_by; soon = start_soon; input = inputs.Start }
+of_start = record { whole = described_by; so_far = start_so_far; input = inputs.Start }
 
 -- ---- what is written
 
@@ -54,7 +54,7 @@ pub record IsAnswer {A : Type 0} (kind : Kind A) (says : SaysOf A) (ended : Type
 
 -- A line of what was given is refused, and the text says so.
 pub record IsRefusal {A : Type 0} (kind : Kind A) (ended : Type 0) (given text : List ℕ) (e : Refusal) : Type 0 where
-  pub line : IsRefused kind.whole kind.soon ended given e
+  pub line : IsRefused kind.whole kind.so_far ended given e
   pub is : text ≡ refusal_text kind.input e
 
 -- A line of what was given is refused, the text says so, and the outcome has the code of that line and its number.
@@ -66,13 +66,13 @@ pub record NamesLine {A : Type 0} (kind : Kind A) (ended : Type 0) (given text :
 
 -- No line of what was given is refused, and nothing was written.
 pub record IsSilent {A : Type 0} (kind : Kind A) (ended : Type 0) (given written : List ℕ) : Type 0 where
-  pub good : IsGood kind.whole kind.soon ended given
+  pub good : IsGood kind.whole kind.so_far ended given
   pub silent : written ≡ []
 
 -- Reading stopped before the end and before a refused line, and nothing was written.
 pub record IsOpen {A : Type 0} (kind : Kind A) (old new : SourceState) (given written : List ℕ) : Type 0 where
   pub going : NotAtEnd old new
-  pub good : kind.soon given ≡ None
+  pub good : kind.so_far given ≡ None
   pub silent : written ≡ []
 
 -- the text begins so

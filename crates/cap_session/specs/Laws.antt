@@ -10,7 +10,7 @@ use Rattle.cap_machine.specs.declared.step.Step.{Step}
 use Rattle.cap_machine.specs.Check.{found_at}
 use Rattle.cap_machine.specs.Explain.{Explained, explanation}
 use Rattle.cap_session.specs.Devices.{SourceState, SinkState}
-use Rattle.cap_session.specs.Trace.{trace, soon}
+use Rattle.cap_session.specs.Trace.{trace, trace_so_far}
 use Rattle.cap_session.specs.Reads.{IsEnded}
 use Rattle.cap_session.specs.Outcome.{refused_as}
 use Rattle.cap_session.specs.Refusal.{refusal_text}
@@ -25,8 +25,8 @@ use Rattle.cap_session.specs.declared.outcome.Outcome.TheVariants.{WriteFault}
 
 -- The first refused line of a beginning is that of the text, whatever follows, and whether or not the end was reached.
 abbrev pub BeginningDecides : Type 0
-BeginningDecides = (begin rest : List ℕ) (e : Refusal) → soon begin ≡ Some e
-    → (soon (begin ++ rest) ≡ Some e) × (trace (begin ++ rest) ≡ Err e)
+BeginningDecides = (begin rest : List ℕ) (e : Refusal) → trace_so_far begin ≡ Some e
+    → (trace_so_far (begin ++ rest) ≡ Some e) × (trace (begin ++ rest) ≡ Err e)
 
 -- An outcome for a good trace: what is asked is answered, unless memory runs out or the writer fails. No other outcome
 -- comes.
@@ -56,7 +56,7 @@ abbrev pub BadIsRefused : Type 0
 BadIsRefused = (question : Question) (profile : Profile) (start : State) (turns : ℕ) (r0 r1 : SourceState)
     (w0 w1 : SinkState) (o : Outcome) (e : Refusal) →
     (call : AskedStreams question profile start turns r0 r1 w0 w1 o)
-    → (soon call.given ≡ Some e) ⊎ (IsEnded r0 r1 × (trace call.given ≡ Err e)) → RefusesLine e call.written o
+    → (trace_so_far call.given ≡ Some e) ⊎ (IsEnded r0 r1 × (trace call.given ≡ Err e)) → RefusesLine e call.written o
 
 -- The answer to a whole text, in an outcome that is one: the others say nothing of the text.
 abbrev pub IsAnswer : Question → Profile → State → List ℕ → List ℕ → Outcome → Type 0

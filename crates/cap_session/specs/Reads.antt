@@ -18,23 +18,23 @@ abbrev pub UsedUp : ℕ → SourceState → SourceState → Type 0
 UsedUp turns old new = new.calls ≡ old.calls + turns
 
 -- Of what was given, all but the last piece has no refused line.
-pub record IsNear (soon : List ℕ → Option Refusal) (given : List ℕ) : Type 0 where
+pub record IsNear (so_far : List ℕ → Option Refusal) (given : List ℕ) : Type 0 where
   pub front : List ℕ
   pub piece : List ℕ
   pub cut : given ≡ front ++ piece
   pub short : length piece ≤ longest_piece
-  pub good : soon front ≡ None
+  pub good : so_far front ≡ None
 
 -- A line of what was given is refused, before the end or at it, and reading went at most a piece past it.
-pub record IsRefused {A : Type 0} (whole : List ℕ → Result A Refusal) (soon : List ℕ → Option Refusal) (ended : Type 0)
+pub record IsRefused {A : Type 0} (whole : List ℕ → Result A Refusal) (so_far : List ℕ → Option Refusal) (ended : Type 0)
     (given : List ℕ) (e : Refusal) : Type 0 where
-  pub line : (soon given ≡ Some e) ⊎ (ended × (whole given ≡ Err e))
-  pub near : IsNear soon given
+  pub line : (so_far given ≡ Some e) ⊎ (ended × (whole given ≡ Err e))
+  pub near : IsNear so_far given
 
 -- No line of what was given is refused, neither before the end nor at it.
-pub record IsGood {A : Type 0} (whole : List ℕ → Result A Refusal) (soon : List ℕ → Option Refusal) (ended : Type 0)
+pub record IsGood {A : Type 0} (whole : List ℕ → Result A Refusal) (so_far : List ℕ → Option Refusal) (ended : Type 0)
     (given : List ℕ) : Type 0 where
-  pub before : soon given ≡ None
+  pub before : so_far given ≡ None
   pub at_end : ended → IsOk (whole given)
 
 -- one, where reading stopped at a fault of the reader
@@ -49,19 +49,19 @@ faults (Ok lines) = 0
 -- What reading answers, for what was given.
 abbrev pub Read : {A T : Type 0} → (List ℕ → Result A Refusal) → (List ℕ → Option Refusal) → (T → A → Type 0) → ℕ
     → SourceState → SourceState → List ℕ → Result T StopReason → Type 0
-Read {A = A} whole soon holds turns old new given (Ok lines) =
+Read {A = A} whole so_far holds turns old new given (Ok lines) =
     IsEnded old new × ((known : A) × (whole given ≡ Ok known) × holds lines known)
-Read whole soon holds turns old new given (Err (Refused e)) = IsRefused whole soon (IsEnded old new) given e
-Read whole soon holds turns old new given (Err Memory) = IsGood whole soon (IsEnded old new) given
-Read whole soon holds turns old new given (Err ReadFault) = NotAtEnd old new × (soon given ≡ None)
-Read whole soon holds turns old new given (Err TooLong) = NotAtEnd old new × (soon given ≡ None) × UsedUp turns old new
-Read whole soon holds turns old new given (Err WriteFault) = ⊥
+Read whole so_far holds turns old new given (Err (Refused e)) = IsRefused whole so_far (IsEnded old new) given e
+Read whole so_far holds turns old new given (Err Memory) = IsGood whole so_far (IsEnded old new) given
+Read whole so_far holds turns old new given (Err ReadFault) = NotAtEnd old new × (so_far given ≡ None)
+Read whole so_far holds turns old new given (Err TooLong) = NotAtEnd old new × (so_far given ≡ None) × UsedUp turns old new
+Read whole so_far holds turns old new given (Err WriteFault) = ⊥
 
 -- Some bytes were given, and the answer is that to these bytes.
-pub record Reads {A T : Type 0} (whole : List ℕ → Result A Refusal) (soon : List ℕ → Option Refusal)
+pub record Reads {A T : Type 0} (whole : List ℕ → Result A Refusal) (so_far : List ℕ → Option Refusal)
     (holds : T → A → Type 0) (turns : ℕ) (old new : SourceState) (result : Result T StopReason) : Type 0 where
   pub given : List ℕ
   pub read : Consumes old.bytes new.bytes given
   pub calls : new.calls ≤ old.calls + turns
   pub failures : new.failures ≡ old.failures + faults result
-  pub answer : Read whole soon holds turns old new given result
+  pub answer : Read whole so_far holds turns old new given result

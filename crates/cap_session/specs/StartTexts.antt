@@ -126,5 +126,5 @@ abbrev pub start : List ℕ → Result State Refusal
 start text = good_as start_state (described_by text)
 
 -- the first refused line of a text whose end isn't reached: one with its LF, or a last piece that is too long
-abbrev pub start_soon : List ℕ → Option Refusal
-start_soon = refused_so_far next_process none_listed
+abbrev pub start_so_far : List ℕ → Option Refusal
+start_so_far = refused_so_far next_process none_listed

@@ -34,5 +34,5 @@ abbrev pub trace : List ℕ → Result (List Entry) Refusal
 trace = whole_text next_entry []
 
 -- the first refused line of a text whose end isn't reached: one with its LF, or a last piece that is too long
-abbrev pub soon : List ℕ → Option Refusal
-soon = refused_so_far next_entry []
+abbrev pub trace_so_far : List ℕ → Option Refusal
+trace_so_far = refused_so_far next_entry []

@@ -5,7 +5,7 @@ ghost use Rattle.std.specs.Option.{ForSome};
 ghost use Rattle.cap_trace.specs.Entry.{Entry};
 ghost use Rattle.cap_trace.specs.Reading.{line_of};
 ghost use Rattle.cap_session.specs.Limits.{most_lines};
-ghost use Rattle.cap_session.specs.Trace.{is_skipped, trace, soon};
+ghost use Rattle.cap_session.specs.Trace.{is_skipped, trace, trace_so_far};
 ghost use Rattle.cap_session.specs.Code.Traced.{Setting, Traced, one_more, next_traced, Follows, Holds};
 ghost use Rattle.cap_session.specs.Reads.{Reads};
 ghost use Rattle.cap_session.specs.Code.Feeds.{TakesLine};
@@ -159,7 +159,7 @@ pub fn read_trace<K: TraceSink, R: Source>(
     requires turns { turns ≤ 2 ^ 32 }
     requires calls { turns ≤ (R.state reader.old).room }
     ensures { (s : Setting) → K.keeps keep s []
-        → Reads trace soon (λ k entries. K.keeps k s entries) turns (R.state reader.old) (R.state reader.new) result }
+        → Reads trace trace_so_far (λ k entries. K.keeps k s entries) turns (R.state reader.old) (R.state reader.new) result }
 {
     let entries = Entries {
         alloc,

@@ -7,7 +7,7 @@ ghost use Rattle.cap_trace.specs.Limits.{largest_pid};
 ghost use Rattle.cap_machine.specs.State.{Added, start_state};
 ghost use Rattle.cap_session.specs.Reads.{Reads};
 ghost use Rattle.cap_session.specs.StartTexts.{Listed, none_listed, next_process, cells_from, start as start_said};
-ghost use Rattle.cap_session.specs.StartTexts.{described_by, start_soon};
+ghost use Rattle.cap_session.specs.StartTexts.{described_by, start_so_far};
 ghost use Rattle.cap_session.specs.Code.StartLines.{StandsFor, Follows, Holds, Adds, TakesNumbered};
 ghost use Rattle.cap_session.specs.Code.StartParsed.{fault_of, Parses};
 ghost use Rattle.cap_session.specs.Texts.{with_line, whole_text};
@@ -177,7 +177,7 @@ fn read_bytes(alloc: Global, bytes: &[u8]) -> Result<Start, StartFault>
 pub fn read_start<R: Source>(alloc: Global, turns: u64, reader: &mut R) -> Result<Start, StopReason>
     requires turns { turns ≤ 2 ^ 32 }
     requires calls { turns ≤ (R.state reader.old).room }
-    ensures { Reads described_by start_soon (λ start known. start ≡ known) turns (R.state reader.old)
+    ensures { Reads described_by start_so_far (λ start known. start ≡ known) turns (R.state reader.old)
         (R.state reader.new) result }
 {
     let starting = read_text(alloc, turns, reader, StartParser::new(alloc))?;

@@ -22,7 +22,8 @@ const NO_PID: &str = "is not a pid, a number from 1 to 99999 without a leading z
 /// What is wrong with a line.
 #[derive(Clone, Copy)]
 pub enum Wrong<'a> {
-    Said(&'static str),
+    /// For this reason.
+    Reason(&'static str),
     /// This text is wrong, for this reason.
     Is(&'a str, &'static str),
     /// There is something else, and this text in its place.
@@ -34,7 +35,7 @@ pub enum Wrong<'a> {
 impl fmt::Display for Wrong<'_> {
     fn fmt<W: fmt::Write>(&self, f: &mut fmt::Formatter<W>) -> fmt::Result {
         match *self {
-            Wrong::Said(said) => f.write_str(said),
+            Wrong::Reason(reason) => f.write_str(reason),
             Wrong::Is(text, said) => write!(f, "{} {said}", excerpt(text)),
             Wrong::Has(said, text) => write!(f, "{said}, but {}", excerpt(text)),
             Wrong::Takes(name, takes, given) => write!(
@@ -124,7 +125,7 @@ fn wrong_entry<'a>(alloc: Global, line: &'a str, code: u8) -> Option<Wrong<'a>> 
 /// What is wrong with a command of a script: mostly the line in it, after two words.
 fn wrong_command<'a>(alloc: Global, command: &'a str, code: u8) -> Option<Wrong<'a>> {
     if code == 1 && command.len() > LONGEST_COMMAND {
-        return Some(Wrong::Said("the command has more than 1,056 bytes"));
+        return Some(Wrong::Reason("the command has more than 1,056 bytes"));
     }
     if code == 10 {
         return Some(Wrong::Is(command, "is not a command"));
@@ -138,7 +139,7 @@ fn wrong_command<'a>(alloc: Global, command: &'a str, code: u8) -> Option<Wrong<
 
 /// What a code means.
 fn general<'a>(code: u8) -> Wrong<'a> {
-    Wrong::Said(match code {
+    Wrong::Reason(match code {
         1 => "the line has more than 1,024 bytes",
         2 => "the line is neither PID NAME(ARGUMENTS) RET RESULT nor PID @NAME(ARGUMENTS)",
         3 => "no pid at the start of the line",
@@ -155,13 +156,13 @@ fn general<'a>(code: u8) -> Wrong<'a> {
 /// What is wrong with any line that begins or ends so, or isn't UTF-8.
 fn wrong_bytes<'a>(line: &[u8]) -> Option<Wrong<'a>> {
     if line.starts_with(b"\xef\xbb\xbf") {
-        return Some(Wrong::Said("a byte order mark at the start of the line"));
+        return Some(Wrong::Reason("a byte order mark at the start of the line"));
     }
     if line.starts_with(b"\xff\xfe") || line.starts_with(b"\xfe\xff") {
-        return Some(Wrong::Said("the text is UTF-16, and not ASCII or UTF-8"));
+        return Some(Wrong::Reason("the text is UTF-16, and not ASCII or UTF-8"));
     }
     if line.ends_with(b"\r") {
-        return Some(Wrong::Said("a carriage return at the end of the line"));
+        return Some(Wrong::Reason("a carriage return at the end of the line"));
     }
     None
 }
@@ -169,7 +170,7 @@ fn wrong_bytes<'a>(line: &[u8]) -> Option<Wrong<'a>> {
 /// What is wrong with the shape of a line.
 fn wrong_shape(line: &str) -> Wrong<'_> {
     let Some((_, call)) = line.split_once(' ') else {
-        return Wrong::Said("the line ends after the pid");
+        return Wrong::Reason("the line ends after the pid");
     };
     let Some((name, rest)) = call.split_once('(') else {
         return Wrong::Has("no name and ( after the pid", call);
@@ -205,7 +206,7 @@ fn wrong_pid(line: &str) -> Wrong<'_> {
         return Wrong::Is(word, NO_PID);
     }
     if line.contains(" = ") || line.contains(" ERR#") {
-        return Wrong::Said(
+        return Wrong::Reason(
             "no pid at the start of the line (a truss recording? convert it with capcheck-truss)",
         );
     }
@@ -283,7 +284,7 @@ const FORMS: [(&str, &str); 17] = [
 fn wrong_argument<'a>(alloc: Global, line: &'a str) -> Option<Wrong<'a>> {
     let (name, args) = call_of(line);
     if fits(alloc, name, args)? {
-        return Some(Wrong::Said("the result is not the descriptor that the arguments name"));
+        return Some(Wrong::Reason("the result is not the descriptor that the arguments name"));
     }
     if name == "@start" {
         let takes = "descriptors, each above the one before";
@@ -370,11 +371,11 @@ fn check_start<'a>(line: &'a str, code: u8) -> Result<(), Wrong<'a>> {
     }
     let mode = words
         .next()
-        .ok_or(Wrong::Said("the line ends before the mode"))?;
+        .ok_or(Wrong::Reason("the line ends before the mode"))?;
     if !matches!(mode, "in" | "out" | "unsure") {
         return Err(Wrong::Is(mode, "is not in, out or unsure"));
     }
-    let others = words.next().ok_or(Wrong::Said(
+    let others = words.next().ok_or(Wrong::Reason(
         "the line ends before what all other descriptors are",
     ))?;
     check_state(others)?;

@@ -112,9 +112,9 @@ refused_after next start last is begin rest e says =
           (long_refused next long.known first.line first.long) ∙ ap (λ x. Err x) (sym long.says)
     ]
 
-pub soon_after : {A : Type 0} (next : A → List ℕ → Result A Refused) (start : A) (begin rest : List ℕ) (e : Refusal)
+pub so_far_after : {A : Type 0} (next : A → List ℕ → Result A Refused) (start : A) (begin rest : List ℕ) (e : Refusal)
     → refused_so_far next start begin ≡ Some e → refused_so_far next start (begin ++ rest) ≡ Some e
-soon_after next start begin rest e says =
+so_far_after next start begin rest e says =
     ap refusal_of (refused_after next start line_if_long is_long begin rest e says)
 
 pub whole_after : {A : Type 0} (next : A → List ℕ → Result A Refused) (start : A) (begin rest : List ℕ) (e : Refusal)
@@ -126,9 +126,9 @@ pub whole_too : {A : Type 0} (next : A → List ℕ → Result A Refused) (start
 whole_too next start text e says = rw append-nil at (whole_after next start text [] e says)
 
 -- a good text has no refused line before its end
-pub good_soon : {A : Type 0} (next : A → List ℕ → Result A Refused) (start known : A) (text : List ℕ)
+pub good_so_far : {A : Type 0} (next : A → List ℕ → Result A Refused) (start known : A) (text : List ℕ)
     → whole_text next start text ≡ Ok known → refused_so_far next start text ≡ None
-good_soon {A = A} next start known text good = go (refused_so_far next start text) refl
+good_so_far {A = A} next start known text good = go (refused_so_far next start text) refl
   where
     go : (r : Option Refusal) → refused_so_far next start text ≡ r → refused_so_far next start text ≡ None
     go None is = is
