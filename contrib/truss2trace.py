@@ -17,7 +17,7 @@ import re
 import sys
 import time
 
-VERSION = "0.1.0"  # that of capcheck
+VERSION = "0.2.0"  # that of capcheck
 EXAMPLE = """\
 example:
   truss -f -o tally.truss ./tally access.log

@@ -58,8 +58,14 @@ impl Model for Node {
 /// To go down to a position takes about as long as to look at so many asks.
 const ASKS_A_POSITION: usize = 16;
 
+/// The rows and cells that are kept of any segment, beside one for each of its steps.
+const CELLS_OF_ANY: usize = 1_024;
+
 /// The most rows and cells that are kept.
 const MOST_CELLS: usize = 8_192;
+
+/// The most rows, cells, asks and refusals that are kept.
+const MOST_KEPT: usize = 40_000;
 
 /// What is known of so many steps, where it is within the limit.
 fn kept(known: Option<Known>, steps: usize) -> Option<Known>
@@ -68,7 +74,7 @@ fn kept(known: Option<Known>, steps: usize) -> Option<Known>
     ensures large { IfNone result (IfSome known (λ known. IsLarge known steps)) }
 {
     let known = known?;
-    if known.effect.size() <= (1_024 + steps).min(MOST_CELLS) && known.fits(40_000) {
+    if known.effect.size() <= (CELLS_OF_ANY + steps).min(MOST_CELLS) && known.fits(MOST_KEPT) {
         return Some(known);
     }
     None

@@ -1,7 +1,7 @@
 //! The texts of help beside what `clap` makes of the command line, and the version. No contract reads them.
 
 /// The version, which `--version` prints. A release gets a section in `CHANGELOG.md`.
-pub const VERSION: &str = "0.1.0";
+pub const VERSION: &str = "0.2.0";
 
 /// The end of `capcheck --help`.
 pub const PROGRAM: &str = "\
