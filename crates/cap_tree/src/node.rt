@@ -142,6 +142,7 @@ impl<S: Segment> Node<S> {
         requires few { length part.value.0 + length other.value.0 ≤ 2 ^ 30 }
         requires room { meter.old + 1 < 2 ^ 64 }
         ensures items { IfOk result (λ n. n.value.0 ≡ beside side part.value.0 other.value.0) }
+        ensures count { IfOk result (λ n. length n.value.0 ≡ length part.value.0 + length other.value.0) }
         ensures height { IfOk result (λ n. n.value.1 ≡ max part.value.1 other.value.1 + 1) }
         ensures counted { OnOk result (meter.new ≡ meter.old + 1) }
         ensures not_less { meter.old ≤ meter.new }
@@ -156,6 +157,7 @@ impl<S: Segment> Node<S> {
     fn parts(&self, side: Side) -> Result<(Rc<Node<S>>, Rc<Node<S>>), NoMemory>
         requires branch { 0 < self.now.1 }
         ensures items { IfOk result (λ two. beside side two.0.value.0 two.1.value.0 ≡ self.now.0) }
+        ensures count { IfOk result (λ two. length two.0.value.0 + length two.1.value.0 ≡ length self.now.0) }
         ensures height { IfOk result (λ two. self.now.1 ≡ max two.0.value.1 two.1.value.1 + 1) }
         ensures balanced { IfOk result (λ two. DifferByAtMost 1 two.0.value.1 two.1.value.1) }
     {

@@ -1,6 +1,4 @@
 //! A list of items with a summary of it: what this crate's callers use.
-//!
-//! A contract sees a tree as its list. The nodes, their heights and their leaves are in `node` and `run`.
 ghost use Rattle.std.specs.Prelude.{◌≡◌, ℕ, ◌+◌, ◌-◌, ◌^◌, ◌<◌, ◌≤◌, ◌==◌, [], length, map, insert, remove};
 ghost use Rattle.std.specs.Prelude.{slice_get, slice_range, slice_set, vec_len, Some, IfOk, OnOk};
 ghost use Rattle.cap_tree.specs.Bits.{bound};

@@ -1,3 +1,4 @@
+use Rattle.std.proofs.Common.{rules}
 use Rattle.cap_tree.proofs.Replaced.{ordered}
 use Rattle.cap_tree.proofs.node.Node.rebalance.Goals as goal
 
@@ -6,3 +7,7 @@ returns-clause-items g c =
     let order = ordered (λ n. n.value.0) c.args.side _ _ c.args.part c.args.other c.order-left.ensures.part
     c.order-left.ensures.other in
     rw order at c.in_ok-whole.ensures.items
+
+-- The search is written out since a wrong body is refused sooner so (docs/GATE.md).
+pub returns-clause-alike : goal.returns-clause-alike
+returns-clause-alike g c = search rules
