@@ -23,8 +23,7 @@ pub noted_both : (last : LastSteps) (at n : ℕ) (t u : List Step) → n ≡ len
 noted_both last at n [] u is first second = subst (λ m. AreNoted last m u) (omega (arith, is)) second
 noted_both last at n (step ∷ t) u is first second = (
   first.0,
-  noted_both last (at + 1) (length t) t u refl first.1
-      (subst (λ m. AreNoted last m u) (omega (arith, is)) second),
+  noted_both last (at + 1) (length t) t u refl first.1 (subst (λ m. AreNoted last m u) (omega (arith, is)) second),
 )
 
 pub noted_parts : (last : LastSteps) (at n : ℕ) (t u : List Step) → n ≡ length t → AreNoted last at (t ++ u)

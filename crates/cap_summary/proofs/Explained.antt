@@ -14,8 +14,7 @@ outside : (s : State) (history : List Step) (k : ℕ) → ((n : ℕ) → n < len
     → explained_at s history k ≡ None
 outside s [] k none = refl
 outside s (step ∷ history) k none =
-    passed s step history k (none (length history) (omega arith))
-    ∙ outside s history k (λ n lt. none n (omega arith))
+    passed s step history k (none (length history) (omega arith)) ∙ outside s history k (λ n lt. none n (omega arith))
 
 older : (s : State) (newer history : List Step) (k : ℕ) → k ≤ length history
     → explained_at s (newer ++ history) k ≡ explained_at s history k

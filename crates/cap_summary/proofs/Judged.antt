@@ -15,8 +15,7 @@ mode_back m = grind arith
 pub ends_so : (effect : Effect) (t : List Step) (s : State)
     → ((p : ℕ) (k : Key) → changed effect (cells_of s) p k ≡ cells_of (ended s t) p k)
     → state_of (changed effect (cells_of s)) ≡ ended s t
-ends_so effect t s after = same_state (state_of (changed effect (cells_of s))) (ended s t)
-    (λ p f. after p (Key.Fd f))
+ends_so effect t s after = same_state (state_of (changed effect (cells_of s))) (ended s t) (λ p f. after p (Key.Fd f))
     (λ p. ap cell_mode (after p Key.Mode) ∙ mode_back ((ended s t).mode p))
 
 pub known_ends : (known : Known) (t : List Step) → Knows known t → (s : State)
@@ -30,8 +29,7 @@ pub record IsJudged (asked : Asked) (at : ℕ) (s : State) (t : List Step) (old 
   pub after : (p : ℕ) (k : Key) → changed effect (cells_of s) p k ≡ cells_of (ended s t) p k
 
 pub none_judged : (asked : Asked) (at : ℕ) (s : State) (old : List Found) (effect : Effect)
-    → ((cells : Cells) (p : ℕ) (k : Key) → changed effect cells p k ≡ cells p k)
-    → IsJudged asked at s [] old old effect
+    → ((cells : Cells) (p : ℕ) (k : Key) → changed effect cells p k ≡ cells p k) → IsJudged asked at s [] old old effect
 none_judged asked at s old effect same = record { findings = sym (append-nil old); after = same (cells_of s) }
 
 -- one more step

@@ -59,18 +59,15 @@ says_none effect pre same never each effects nothing = record {
   refusals = omega (arith, nothing);
 }
 
-pub knows_both : (a b both : Known) (t u : List Step) → Knows a t → Knows b u → IsJoined a b both
-    → Knows both (t ++ u)
+pub knows_both : (a b both : Known) (t u : List Step) → Knows a t → Knows b u → IsJoined a b both → Knows both (t ++ u)
 knows_both a b both t u first second joined = record {
   after = λ s p k. (joined.effect.rows p).cells (cells_of s) k
-      ∙ ap (λ (cells : Cells). changed b.effect.value cells p k) (between s)
-      ∙ second.after (ended s t) p k
+      ∙ ap (λ (cells : Cells). changed b.effect.value cells p k) (between s) ∙ second.after (ended s t) p k
       ∙ ap (λ (state : State). cells_of state p k) (sym (ends_in_turn s t u));
   finds = λ s. joined.precondition.with.met s
       ∙ ap (λ (cells : Cells). is_met (cells_of s) a.precondition.value || is_met cells b.precondition.value) (between s)
       ∙ ap (λ r. r || is_met (cells_of (ended s t)) b.precondition.value) (first.finds s)
-      ∙ ap (λ r. has_any (check s t) || r) (second.finds (ended s t))
-      ∙ sym (found s);
+      ∙ ap (λ r. has_any (check s t) || r) (second.finds (ended s t)) ∙ sym (found s);
   possible = joined.precondition.with.each Open tt second.possible first.possible;
   left = λ p k is. both_leave t u p k (first.left p k ((joined.effect.rows p).leaves k is).0)
       (second.left p k ((joined.effect.rows p).leaves k is).1);
@@ -142,27 +139,22 @@ module _ (step : Step) (line : LineEffect) (me : ℕ) (cells : (p f : ℕ) → e
       → (p : ℕ) (k : Key) → changed new (cells_of s) p k ≡ cells_of (ended s (t ++ step ∷ [])) p k
   after_more effect new t s so_far does p k = does (cells_of s) p k
       ∙ ap (λ (cells : Cells). line_after line me cells p k) (fun_ext (λ q. fun_ext (λ j. so_far q j)))
-      ∙ line_is (ended s t) p k
-      ∙ ap (λ (state : State). cells_of state p k) (sym (ends_more s t step))
+      ∙ line_is (ended s t) p k ∙ ap (λ (state : State). cells_of state p k) (sym (ends_more s t step))
 
-  pub says_more : (effect new : Effect) (pre more : Precondition) (asks : LineAsks) (t : List Step)
-      → Says effect pre t
+  pub says_more : (effect new : Effect) (pre more : Precondition) (asks : LineAsks) (t : List Step) → Says effect pre t
       → ((cells : Cells) (p : ℕ) (k : Key) → changed new cells p k ≡ line_after line me (changed effect cells) p k)
       → ((p : ℕ) (k : Key) → leaves new p k ≡ true → (leaves effect p k ≡ true) × LineLeaves line me p k)
       → IsWithMore effect (λ cells. asked_holds cells asks)
       (IfNamed (λ names. AreWithin names (asks_in asks))) 3 (refusals_in asks) pre more
       → ((s : State) → asked_holds (cells_of s) asks ≡ has_any (said step s))
       → ((names : Names) → LineWithin names me line → EffectWithin names effect → EffectWithin names new)
-      → LineWithin (names_in (t ++ step ∷ [])) me line
-      → AreWithin (names_in (t ++ step ∷ [])) (asks_in asks)
+      → LineWithin (names_in (t ++ step ∷ [])) me line → AreWithin (names_in (t ++ step ∷ [])) (asks_in asks)
       → refusals_in asks ≤ (if is_refusal (requirement step.line).reply then 1 else 0) → Says new more (t ++ step ∷ [])
   says_more effect new pre more asks t so_far does leaves with says effects line_named asks_named one = record {
     after = λ s. after_more effect new t s (so_far.after s) does;
-    finds = λ s. with.met s
-        ∙ ap (λ (cells : Cells). is_met (cells_of s) pre || asked_holds cells asks) (between s)
+    finds = λ s. with.met s ∙ ap (λ (cells : Cells). is_met (cells_of s) pre || asked_holds cells asks) (between s)
         ∙ ap (λ r. r || asked_holds (cells_of (ended s t)) asks) (so_far.finds s)
-        ∙ ap (λ r. has_any (check s t) || r) (says (ended s t))
-        ∙ sym (found s);
+        ∙ ap (λ r. has_any (check s t) || r) (says (ended s t)) ∙ sym (found s);
     possible = with.each Open tt tt so_far.possible;
     left = λ p k is. both_leave t (step ∷ []) p k (so_far.left p k (leaves p k is).0) (step_leaves p k (leaves p k is).1);
     effect_named = effects (names_in (t ++ step ∷ [])) line_named named;

@@ -1,9 +1,8 @@
 -- What one line lists, that the line names it, and a cell that is set in place.
 use Rattle.std.specs.Prelude.{All, Bool, IfSome, List, None, Option, Some, cond, false, get_or, length, refl, unwrap_or}
-use Rattle.std.specs.Prelude.{[], eqb, take, true, ℕ, ◌&&◌, ◌+◌, ◌<◌, ◌==◌, ◌||◌, ◌∷◌, ◌≡◌}
 use Rattle.cap_summary.proofs.{All-head, All-tail, Bor, eq-eqb, eqb-true, list_any_more, or-false, or-true, subst, sym}
 use Rattle.cap_summary.proofs.{ap, ◌∙◌}
-use Rattle.cap_summary.specs.{started}
+use Rattle.cap_summary.specs.{started, [], eqb, take, true, ℕ, ◌&&◌, ◌+◌, ◌<◌, ◌==◌, ◌||◌, ◌∷◌, ◌≡◌}
 use Rattle.cap_summary.specs.{Cell, declared.base.Base.Base, declared.effect.Effect.Effect, declared.value.Value.Value}
 use Rattle.cap_summary.specs.{Keys.mode_cell, Keys.read, declared.effect.Row.Row, declared.key.Key.Key, option_map_or}
 use Rattle.cap_summary.specs.{Closed, Keys.Cells, LineEffect, Outside, Sorted.found, Unsure, all, fds_spelled, list_any}
@@ -99,8 +98,7 @@ module _ (first : Effect) (q fd : ℕ) (value : Value) (mid new : List (ℕ × R
     where
       by : (b : Bool) → (p == q) ≡ b → cell_in cells (cond b (Some now) (found mid p)) p k
           ≡ cond (is_cell q fd p k) (read cells value) (changed first cells p k)
-      by true is = rw (eqb-true p q is) (row_with cells k
-          ∙ ap (cond (is_cell q fd q k) (read cells value))
+      by true is = rw (eqb-true p q is) (row_with cells k ∙ ap (cond (is_cell q fd q k) (read cells value))
           (ap (λ row. row_cell cells q row k) taken_is ∙ own_cell cells q (found first.rows q) k))
       by false is = ap (λ row. cell_in cells row p k) (others p is)
           ∙ ap (λ b. cond b (read cells value) (changed first cells p k)) (sym (other_cell p k is))

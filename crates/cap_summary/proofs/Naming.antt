@@ -185,14 +185,11 @@ module _ (me : ℕ) (touches : ℕ → ℕ → Touch) (told b : ℕ → Bool)
       (All-cons Told h [] (given_told me h c (sym (does me h) ∙ rw (
         itself me,
         itself h,
-        or_right (h == g) true
-            refl,
-      ) refl))
-      (All-nil Told))
+        or_right (h == g) true refl,
+      ) refl)) (All-nil Told))
   forked_told (LineEffect.Change g op h) does =
       let here : touches me g ≡ taken op me h = sym (does me g) ∙ rw (itself me, itself g) refl in
-      by_cases (told g) (λ is_told. absurd (bound me g op me h is_told here))
-      (λ untold. let n = fresh g in
+      by_cases (told g) (λ is_told. absurd (bound me g op me h is_told here)) (λ untold. let n = fresh g in
       absurd (taken_never g h n.0 op here untold (sym (does me n.0) ∙ rw (itself me, n.2) refl) n.1))
   forked_told (LineEffect.ForkAs child g) does =
       All-cons Told g [] (given_told child g Unknown (sym (does child g)
@@ -216,8 +213,7 @@ module _ (profile : Profile) (me : ℕ) (line : LineEffect) where
   fork_named : (call : BareCall) (answer : Answer) → is_fork (Call.Bare call) ≡ true
       → Does line (step_of profile me (Item.Call (Call.Bare call) answer))
       → All (Named (step_of profile me (Item.Call (Call.Bare call) answer))) (fds_of line)
-  fork_named Fork (Answer.Made c) is does = no_fds Fork (Answer.Made c) (λ p. not (c == 0) && p == c) (λ p f.
-      refl) does
+  fork_named Fork (Answer.Made c) is does = no_fds Fork (Answer.Made c) (λ p. not (c == 0) && p == c) (λ p f. refl) does
   fork_named Vfork (Answer.Made c) is does = no_fds Vfork (Answer.Made c) (λ p. not (c == 0) && p == c) (λ p f.
       refl) does
   fork_named Pdfork (Answer.Pair c e) is does =

@@ -1,8 +1,7 @@
 -- What is known of an old whole, of a whole that has another part in place of one.
-use Rattle.std.specs.Prelude.{refl, true, ℕ, ◌||◌, ◌≡◌}
 use Rattle.cap_summary.proofs.{ap, arith, ◌∙◌}
 use Rattle.cap_summary.specs.{Effects.cell_in, Keys.cells_of, declared.effect.Effect.Effect, declared.known.Known.Known}
-use Rattle.cap_summary.specs.{Effects.changed, Keys.Cells, Similarity, Sorted.found, part_at}
+use Rattle.cap_summary.specs.{Effects.changed, Keys.Cells, Similarity, Sorted.found, part_at, refl, true, ℕ, ◌||◌, ◌≡◌}
 use Rattle.cap_summary.specs.Composing.{AreAlike, IsComposedSo, IsJoined, IsJoinedEffect}
 use Rattle.cap_summary.specs.declared.precondition.Precondition.{Precondition}
 use Rattle.cap_tree.specs.declared.similarity.Side.{Side}

@@ -32,8 +32,7 @@ found_all asked at n s t u old len =
       map-append (later at) first (map (later (length t)) second),
       later-later at (length t) second,
       filter-append (is_at asked.from asked.to) (map (later at) first) (map (later (at + length t)) second),
-    )
-    (sym (append_assoc old (found_in asked at s t) (found_in asked (at + length t) (ended s t) u)))
+    ) (sym (append_assoc old (found_in asked at s t) (found_in asked (at + length t) (ended s t) u)))
 
 pub found_parts : (asked : Asked) (at n : ℕ) (s : State) (t u : List Step) (old first all : List Found) → n ≡ length t
     → first ≡ old ++ found_in asked at s t → all ≡ first ++ found_in asked (at + n) (ended s t) u

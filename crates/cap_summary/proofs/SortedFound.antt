@@ -40,8 +40,7 @@ rises_again b [] above keys = tt
 rises_again b ((k, v) ∷ rest) above keys = (
   above 0 (k, v) (omega arith),
   rises_again (k + 1) rest (λ i d lt. let next : k < (get_or rest i d).0 = keys 0 (suc i) d (omega arith) (omega arith) in
-      omega (arith, next))
-      (λ i j d lt in_range. keys (suc i) (suc j) d (omega arith) (omega arith)),
+      omega (arith, next)) (λ i j d lt in_range. keys (suc i) (suc j) d (omega arith) (omega arith)),
 )
 
 -- in the rest, an entry is one place lower

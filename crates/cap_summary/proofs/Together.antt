@@ -80,8 +80,7 @@ module _ (all : List Ask) (r : ℕ) where
       rw (
         one_fails a (λ p k c no. (or_parts _ _ (one p k c no)).0) (and_left (has_all r a.rights) _ both) certain.0,
         none_of asks (λ p k c no. (or_parts _ _ (one p k c no)).1) (and_right (has_all r a.rights) _ both) certain.1,
-      )
-      refl
+      ) refl
 
 pub none_holds : (asks : List Ask) → list_any (is_certain_in asks) asks ≡ false
     → (s : State) × (any_holds (cells_of s) asks ≡ false)

@@ -13,8 +13,7 @@ module _ {W : Type 0} (see : W → State → List Step → Origin) where
   sees_both : (old mid new : W) (at n : ℕ) (t u : List Step) → n ≡ at + length t → Passes see old mid n u
       → Passes see mid new at t → Passes see old new at (t ++ u)
   sees_both old mid new at n t u is right left s h long =
-      left s h long
-      ∙ right s (reverse t ++ h) (omega (arith, length-append (reverse t) h, length-reverse t, is, long))
+      left s h long ∙ right s (reverse t ++ h) (omega (arith, length-append (reverse t) h, length-reverse t, is, long))
       ∙ ap (see old s) (sym (append_assoc (reverse u) (reverse t) h) ∙ ap (λ r. r ++ h) (sym (reverse-append t u)))
 
   -- the first steps of two parts, more than the left one has
@@ -29,8 +28,7 @@ module _ {W : Type 0} (see : W → State → List Step → Origin) where
       whole = take_all left a (omega (arith, long))
 
       taken : take left a ++ take (count - left) b ≡ take count (a ++ b)
-      taken = ap (λ (r : List Step). r ++ take (count - left) b) whole
-          ∙ sym (take-append-add a b (count - left))
+      taken = ap (λ (r : List Step). r ++ take (count - left) b) whole ∙ sym (take-append-add a b (count - left))
           ∙ ap (λ (n : ℕ). take n (a ++ b)) (omega (arith, long, more))
 
   -- with these steps before it a walk sees what one before all of the run saw

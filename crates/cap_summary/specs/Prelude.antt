@@ -2,7 +2,7 @@
 pub use Rattle.std.specs.Prelude.{All, IsPermutation, option_copied, option_map, slice_index_or, slice_range, unwrap_or}
 pub use Rattle.std.specs.Prelude.{Bool, IfOk, List, None, OnOk, Some, cond, drop, eqb, false, map, refl, take, true, ℕ}
 pub use Rattle.std.specs.Prelude.{IfSome, Option, Result, [], filter, get_or, is_none, is_some, length, nat_le, reverse}
-pub use Rattle.std.specs.Prelude.{min, not, set, suc}
+pub use Rattle.std.specs.Prelude.{min, not, set, suc, ◌≡◌, ◌+◌, ◌++◌, ◌∷◌, ◌≤◌, ◌<◌, ◌-◌, ◌==◌, ◌||◌, ◌&&◌, ◌⊎◌}
 pub use Rattle.std.specs.declared.cmp.Ordering.TheVariants.{Equal, Greater, Less}
 pub use Rattle.std.specs.declared.{alloc.Global.Global, cmp.Ordering.Ordering, rc.Rc.Rc, vec.Vec.Vec}
 pub use Rattle.std.specs.{Cmp.Lexicographic.pointwise, List.AllZip, List.Sorted.IsNonDecreasingBy, Option.option_map_or}

@@ -16,7 +16,7 @@ use std::cmp::Ordering;
 
 /// A test of one cell before a segment. The cell passes if it has one of some kinds, or if it is held, has one of some
 /// other kinds, and lacks some of the rights.
-#[derive(Clone, Copy, Debug, PartialEq, Eq)]
+#[derive(Clone, Copy, PartialEq, Eq)]
 pub struct Ask {
     /// The process.
     pub pid: Pid,
@@ -31,7 +31,7 @@ pub struct Ask {
 }
 
 /// What becomes of an ask where it is pulled back to an earlier state.
-#[derive(Clone, Copy, Debug, PartialEq, Eq)]
+#[derive(Clone, Copy)]
 pub enum Pulled {
     /// It holds whatever the state.
     Always,

@@ -7,7 +7,7 @@ ghost use Rattle.cap_summary.specs.Effects.{base_cell, is_from, is_own, others_c
 use cap_trace::{Fd, Pid};
 
 /// How a whole table of cells is handed on.
-#[derive(Clone, Copy, Debug, PartialEq, Eq)]
+#[derive(Clone, Copy, PartialEq, Eq)]
 pub enum Passing {
     /// As it is (fork(2)).
     Same,
@@ -16,7 +16,7 @@ pub enum Passing {
 }
 
 /// The cells of a process that aren't listed, below those that are closed.
-#[derive(Clone, Copy, Debug, PartialEq, Eq)]
+#[derive(Clone, Copy, PartialEq, Eq)]
 pub enum DefaultCells {
     /// Each is as it was.
     Own,
@@ -30,7 +30,7 @@ pub enum DefaultCells {
 }
 
 /// The cells of a process that aren't listed.
-#[derive(Clone, Copy, Debug, PartialEq, Eq)]
+#[derive(Clone, Copy, PartialEq, Eq)]
 pub struct Base {
     /// Those below `closed_from`.
     pub others: DefaultCells,

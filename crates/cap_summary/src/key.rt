@@ -8,7 +8,7 @@ use cap_rights::RightSet;
 use cap_trace::Fd;
 
 /// What of a process a cell is kept for.
-#[derive(Clone, Copy, Debug, PartialEq, Eq)]
+#[derive(Clone, Copy, PartialEq, Eq)]
 pub enum Key {
     /// Its mode, kept as a cell ([`cell_of_mode`]).
     Mode,

@@ -8,7 +8,7 @@ use cap_machine::{Cell, OnExec};
 /// A set of kinds of cells: held with each of the three close-on-exec flags, unknown, and closed.
 ///
 /// Kind k is bit k: see [`kind_of`].
-#[derive(Clone, Copy, Debug, PartialEq, Eq)]
+#[derive(Clone, Copy, PartialEq, Eq)]
 pub struct Kinds {
     bits: u8,
 }

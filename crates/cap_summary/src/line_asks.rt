@@ -13,7 +13,7 @@ use cap_rights::RightSet;
 use cap_trace::{Fd, Pid};
 
 /// Where something is found in a line.
-#[derive(Clone, Copy, Debug, PartialEq, Eq)]
+#[derive(Clone, Copy)]
 pub enum LineAsks {
     /// In every state.
     Always,

@@ -91,22 +91,21 @@ pub fn report_range(
     ensures all { IfOk result (λ report. report.judged ≤ 2 * length (summed_up summary.now)) }
     ensures each { IfOk result (λ report. positions report.found.items ≤ report.judged) }
 {
-    let most = summary.node.len() / STEPS_A_FINDING;
+    let node: &Node = &summary.node;
+    let most = node.len() / STEPS_A_FINDING;
     let asked = Asked { from, to, most };
     let mut report = Report {
         found: Vec::new(alloc),
         judged: 0,
     };
-    if summary.node.is_kept() {
+    if node.is_kept() {
         let before = Before::At(&*start);
-        summary
-            .node
-            .resolve(alloc, &before, 0, &asked, &mut report)?;
+        node.resolve(alloc, &before, 0, &asked, &mut report)?;
         if report.found.len() <= most {
             return Ok(report);
         }
     } else if asked.are_at_most(MOST_ALONE) {
-        judge_alone(alloc, &*summary.node, start, &asked, &mut report)?;
+        judge_alone(alloc, node, start, &asked, &mut report)?;
         return Ok(report);
     }
     judge_in_order(alloc, summary, start, &asked, &mut report)?;
@@ -130,12 +129,13 @@ fn judge_in_order(
     ensures each { OnOk result (positions report.new.found.items ≤ report.new.judged) }
 {
     report.found.clear();
+    let node: &Node = &summary.node;
     let mut last = LastSteps::nothing(alloc);
-    summary.node.note_last(0, &mut last)?;
+    node.note_last(0, &mut last)?;
     let Ok(mut machine) = Machine::from_start(alloc, start) else {
         return Err(NoMemory);
     };
-    let judged = summary.node.judge(&mut machine, 0, &last, asked, report);
+    let judged = node.judge(&mut machine, 0, &last, asked, report);
     drop(machine);
     judged
 }

@@ -9,7 +9,7 @@ use crate::{Ask, Effect, Key, Kinds, Pulled};
 use cap_rights::RightSet;
 
 /// At most three asks.
-#[derive(Clone, Copy, Debug, PartialEq, Eq)]
+#[derive(Clone, Copy, PartialEq, Eq)]
 pub struct UpToThree {
     asks: [Ask; 3],
     count: usize,

@@ -260,11 +260,13 @@ impl<S: Segment> Node<S> {
         ensures not_less { meter.old ≤ meter.new }
         ensures joins { meter.new ≤ meter.old + 3 }
     {
-        if part.height() > other.height() + 1 {
+        let near = part.height();
+        let far = other.height();
+        if near > far + 1 {
             let node = Node::rotate(alloc, meter, side, &part, other)?;
             return Ok((node, Similarity::none()));
         }
-        if other.height() > part.height() + 1 {
+        if far > near + 1 {
             let node = Node::rotate(alloc, meter, side.opposite(), &other, part)?;
             return Ok((node, Similarity::none()));
         }

@@ -44,7 +44,7 @@ impl Side {
 }
 
 /// What of two summaries is known to be the same.
-#[derive(Clone, Copy, Debug, PartialEq, Eq)]
+#[derive(Clone, Copy)]
 pub struct Similarity {
     /// What the items do.
     pub effect: bool,

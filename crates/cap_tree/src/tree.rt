@@ -173,9 +173,7 @@ impl<S: Segment> Tree<S> {
         self.edited(alloc, meter, at, Edit::Remove)
     }
 
-    /// The tree with this item in place of the one that is there.
-    ///
-    /// Makes at most `12 * bits n + 12` joins, n the length.
+    /// The tree with this item in place of the one that is there. Makes at most `12 * bits n + 12` joins, n the length.
     pub fn replace(
         &self,
         alloc: Global,

@@ -1,7 +1,6 @@
-use Rattle.std.specs.Prelude.{List, Some, length, ℕ, ◌-◌, ◌≡◌}
 use Rattle.cap_summary.proofs.{ap, arith, sym, ◌∙◌}
 use Rattle.cap_summary.proofs.Explained.{explained_past, explained_there, explained_zero}
-use Rattle.cap_summary.specs.{Explained, Stands.summed_up, State, Step, start_state}
+use Rattle.cap_summary.specs.{Explained, Stands.summed_up, State, Step, start_state, List, Some, length, ℕ, ◌-◌, ◌≡◌}
 use Rattle.cap_summary.proofs.explaining.explain.Goals as goal
 
 pub returns-then-position-eq0 : goal.returns-then-position-eq0

@@ -1,5 +1,4 @@
-use Rattle.std.specs.Prelude.{length, take, ◌-◌, ◌≡◌, ◌≤◌}
-use Rattle.cap_summary.specs.{Positions.found_in, Positions.positions, start_state}
+use Rattle.cap_summary.specs.{Positions.found_in, Positions.positions, start_state, length, take, ◌-◌, ◌≡◌, ◌≤◌}
 use Rattle.cap_summary.proofs.explaining.judge_alone.Given as goal
 
 abbrev pub invariant-loop-count : goal.invariant-loop-count

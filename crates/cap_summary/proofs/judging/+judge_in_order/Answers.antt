@@ -1,8 +1,7 @@
-use Rattle.std.specs.Prelude.{List, [], length, refl, slice_range, ◌+◌, ◌<◌, ◌∷◌, ◌≡◌}
+use Rattle.cap_summary.specs.{Positions.AreJudged, Positions.AreNoted, Positions.last_of, slice_range, start_state, ◌+◌}
+use Rattle.cap_summary.specs.{[], ended, length, List, Rc, refl, State, Step, values, ◌<◌, ◌∷◌, ◌≡◌}
 use Rattle.cap_summary.proofs.{Resolving.one_found, Runs.head_tail, arith, rules}
 use Rattle.cap_summary.proofs.Agreeing.{agree_next, judged_both, same_said}
-use Rattle.cap_summary.specs.{Rc, State, Step, ended, start_state, values}
-use Rattle.cap_summary.specs.Positions.{AreJudged, AreNoted, last_of}
 use Rattle.cap_summary.proofs.judging.+judge_in_order.Goals as goal
 
 pub judge_in_order-requires : goal.judge_in_order-requires

@@ -1,5 +1,4 @@
-use Rattle.std.specs.Prelude.{length, take, ◌+◌, ◌≡◌}
-use Rattle.cap_summary.specs.{Effects.state_before, values}
+use Rattle.cap_summary.specs.{Effects.state_before, values, length, take, ◌+◌, ◌≡◌}
 use Rattle.cap_summary.proofs.Judged.{IsJudged}
 use Rattle.cap_summary.proofs.judging.judge_run.Given as goal
 

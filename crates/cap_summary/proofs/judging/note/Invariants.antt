@@ -1,5 +1,4 @@
-use Rattle.std.specs.Prelude.{map, take, ◌++◌, ◌≡◌}
-use Rattle.cap_summary.specs.{found_at}
+use Rattle.cap_summary.specs.{found_at, map, take, ◌++◌, ◌≡◌}
 use Rattle.cap_summary.proofs.judging.note.Given as goal
 
 abbrev pub invariant-loop-finding : goal.invariant-loop-finding

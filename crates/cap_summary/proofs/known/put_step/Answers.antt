@@ -1,5 +1,4 @@
-use Rattle.std.specs.Prelude.{[], ◌++◌, ◌∷◌, ◌≡◌}
-use Rattle.cap_summary.specs.{Entry, Names.names_in}
+use Rattle.cap_summary.specs.{Entry, Names.names_in, [], ◌++◌, ◌∷◌, ◌≡◌}
 use Rattle.cap_summary.proofs.{Knowing.says_more, Naming.line_in, Naming.requirement_in, ap}
 use Rattle.cap_summary.proofs.known.put_step.Goals as goal
 
@@ -17,5 +16,4 @@ returns c = λ steps so_far.
     (λ s. rw (pid, requirement) at (c.of_line-asks.ensures.holds s)) c.in_ok-push.ensures.names
     (rw pid (line_in c.args.step.now steps c.rule_of-rule.result.effect
     (λ p f. rw view at (rule.cells p f)))) (c.of_line-asks.ensures.names (names_in (steps ++ c.args.step.now ∷ []))
-    (rw (pid, requirement) (requirement_in c.args.step.now steps)))
-    (rw requirement at c.of_line-asks.ensures.refusals)
+    (rw (pid, requirement) (requirement_in c.args.step.now steps))) (rw requirement at c.of_line-asks.ensures.refusals)

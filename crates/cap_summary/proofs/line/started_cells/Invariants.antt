@@ -1,5 +1,4 @@
-use Rattle.std.specs.Prelude.{All, take, true, ◌≡◌}
-use Rattle.cap_summary.specs.{Names.ListWithin, Names.Names}
+use Rattle.cap_summary.specs.{Names.ListWithin, Names.Names, All, take, true, ◌≡◌}
 use Rattle.cap_summary.proofs.{LineListed.IsStarted}
 use Rattle.cap_summary.proofs.line.started_cells.Given as goal
 

@@ -32,8 +32,7 @@ loop-ask-preserved-in_default c =
       back = rw c.in_ok-push.ensures.items (pulled_put first c.args.asks.now c.loop-ask.ask-index ask
           c.loop-ask.kept.items c.loop-ask.moved.items c.loop-ask-test.true c.ask-item.is so_far.back ask
           (λ can. can) (λ s. ap (passes ask) (sym (rw c.in_default.is at c.changed_by.ensures.left (cells_of s))
-          ∙ ap (λ r. cell_in (cells_of s) r ask.pid ask.key) c.row_of-row.ensures))
-          (λ names effect within. within));
+          ∙ ap (λ r. cell_in (cells_of s) r ask.pid ask.key) c.row_of-row.ensures)) (λ names effect within. within));
       kept = rw c.in_ok-push.ensures.items
           (kept_more _ _ _ ask c.loop-ask-test.true c.ask-item.is so_far.kept ask refl);
       row = c.row_of-row.ensures;

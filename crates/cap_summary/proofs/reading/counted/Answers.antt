@@ -1,6 +1,5 @@
-use Rattle.std.specs.Prelude.{All, [], get_or, ℕ, ◌++◌, ◌+◌, ◌<◌, ◌∷◌, ◌≡◌}
 use Rattle.cap_summary.specs.{List, Sorted.RisesFrom, declared.effect.Row.Row, declared.value.Value.Value, length, min}
-use Rattle.cap_summary.specs.{Keys.CellsRise, Keys.rows_size, take}
+use Rattle.cap_summary.specs.{Keys.CellsRise, Keys.rows_size, take, All, [], get_or, ℕ, ◌++◌, ◌+◌, ◌<◌, ◌∷◌, ◌≡◌}
 use Rattle.cap_summary.proofs.{SortedFound.keys_rise, All-push, ap, arith, subst, sym, take_all, take_more, ◌∙◌}
 use Rattle.cap_summary.proofs.reading.counted.Goals as goal
 

@@ -1,5 +1,4 @@
-use Rattle.std.specs.Prelude.{All, min, take, ◌≡◌}
-use Rattle.cap_summary.specs.Keys.{CellsRise, rows_size}
+use Rattle.cap_summary.specs.{All, Keys.CellsRise, Keys.rows_size, min, take, ◌≡◌}
 use Rattle.cap_summary.proofs.reading.counted.Given as goal
 
 abbrev pub invariant-loop-entry : goal.invariant-loop-entry

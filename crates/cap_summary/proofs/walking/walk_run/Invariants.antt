@@ -1,5 +1,4 @@
-use Rattle.std.specs.Prelude.{length, ◌≤◌}
-use Rattle.cap_summary.specs.{values}
+use Rattle.cap_summary.specs.{values, length, ◌≤◌}
 use Rattle.cap_summary.proofs.Walks.{Sees}
 use Rattle.cap_summary.proofs.walking.walk_run.Given as goal
 

@@ -1,6 +1,5 @@
-use Rattle.std.specs.Prelude.{refl, ℕ, ◌≡◌}
 use Rattle.cap_summary.proofs.{ap, before.Before.+read.Goals.Joined-view, ◌∙◌}
-use Rattle.cap_summary.specs.{Keys.cell_mode, Keys.cells_of, Keys.mode_cell, Keys.seen_cell}
+use Rattle.cap_summary.specs.{Keys.cell_mode, Keys.cells_of, Keys.mode_cell, Keys.seen_cell, refl, ℕ, ◌≡◌}
 use Rattle.cap_summary.specs.Effects.{changed, state_before}
 use Rattle.cap_summary.proofs.before.Before.+read.Goals as goal
 

@@ -1,7 +1,6 @@
-use Rattle.std.specs.Prelude.{Option, ◌≡◌}
-use Rattle.cap_summary.specs.{Composing.IsComposedSo, Composing.IsOldAt, Some, Sorted.found, false, option_copied, true}
+use Rattle.cap_summary.specs.{Composing.IsComposedSo, declared.effect.Effect.Effect, declared.effect.Row.Row, Option}
+use Rattle.cap_summary.specs.{Composing.IsOldAt, false, option_copied, Some, Sorted.found, true, ◌≡◌}
 use Rattle.cap_summary.proofs.{Equal.same_given, IfSome_then, OwnCells.copied, OwnCells.first_replaced, subst, sym, ◌∙◌}
-use Rattle.cap_summary.specs.declared.effect.{Effect.Effect, Row.Row}
 use Rattle.cap_summary.proofs.composed.Replaced.row.Goals as goal
 
 pub returns-then-stands : goal.returns-then-stands

@@ -1,10 +1,9 @@
-use Rattle.std.specs.Prelude.{Bool, List, false, refl, true, ℕ, ◌==◌, ◌||◌, ◌≡◌, ◌⊎◌}
 use Rattle.cap_summary.specs.{Effects.line_after, Effects.turned_cell, LineEffect, Set, Sorted.found, Unknown, is_child}
 use Rattle.cap_summary.specs.Effects.{LineLeaves, cell_in, changed, is_touched, leaves, leaves_in, row_cell, row_leaves}
 use Rattle.cap_summary.proofs.{Bools.or_right, ap, eq-eqb, eqb-true, inl, inr, on_ok_weaker, or-false, subst, sym, ◌∙◌}
 use Rattle.cap_summary.specs.{Keys.Cells, declared.effect.Effect.Effect, declared.effect.Row.Row, declared.key.Key.Key}
 use Rattle.cap_summary.specs.{Cell, Clear, Closed, Held, Unsure, applied, cond, follows, given, stays, taken, touched}
-use Rattle.cap_summary.specs.{kept, same}
+use Rattle.cap_summary.specs.{kept, same, Bool, List, false, refl, true, ℕ, ◌==◌, ◌||◌, ◌≡◌, ◌⊎◌}
 use Rattle.cap_summary.proofs.effect.Effect.push_row.Goals as goal
 
 -- ---- a process that isn't touched keeps its cells
@@ -84,8 +83,7 @@ module _ (first : Effect) (new : List (ℕ × Row)) (line : LineEffect) (me : �
       → ((p : ℕ) (k : Key) → leaves_in (found new p) k ≡ true
       → ((is_touched line me p ≡ false) × (leaves first p k ≡ true))
       ⊎ ((p ≡ me) × (is_child line me ≡ false) × (row_leaves row k ≡ true)))
-      → (p : ℕ) (k : Key) → leaves_in (found new p) k ≡ true
-      → (leaves first p k ≡ true) × LineLeaves line me p k
+      → (p : ℕ) (k : Key) → leaves_in (found new p) k ≡ true → (leaves first p k ≡ true) × LineLeaves line me p k
   then_leaves own_left after put p k left = elim (put p k left) [
     | inl other ↦ (other.1, untouched_left line me p other.0 k)
     | inr here ↦

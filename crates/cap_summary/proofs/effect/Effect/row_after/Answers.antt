@@ -10,8 +10,7 @@ use Rattle.cap_summary.proofs.effect.Effect.row_after.Goals as goal
 module _ (cells after : Cells) (p : ℕ) (passing : Passing) (base : Base) (rest : Cell) (f : ℕ)
     (closed : is_from base.closed_from f ≡ true → rest ≡ Closed) where
   -- what is handed on, or not
-  handed_so : (handed : Option Value) (b : Bool) → is_from base.closed_from f ≡ b
-      → (is_from base.closed_from f ≡ false
+  handed_so : (handed : Option Value) (b : Bool) → is_from base.closed_from f ≡ b → (is_from base.closed_from f ≡ false
       → option_map_or (λ v. passed passing (read cells v)) handed rest ≡ base_cell after p base f)
       → option_map_or (λ v. cond (is_from base.closed_from f) rest (passed passing (read cells v))) handed rest
       ≡ base_cell after p base f

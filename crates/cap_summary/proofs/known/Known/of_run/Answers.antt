@@ -12,8 +12,7 @@ loop-step-preserved c =
     rw (
       one_more c.args.steps.now c.loop-step.step-index c.step-item.result c.loop-step-test.true c.step-item.is,
       ← c.deref.ensures,
-    )
-    (c.in_ok-put_step.ensures _ c.loop-step.invariant)
+    ) (c.in_ok-put_step.ensures _ c.loop-step.invariant)
 
 pub returns : goal.returns
 returns c =

@@ -1,9 +1,8 @@
-use Rattle.std.specs.Prelude.{false, map, not, refl, true, ◌&&◌, ◌||◌, ◌≡◌}
+use Rattle.cap_summary.specs.{Asks.has_kind, Asks.is_lacked, declared.kinds.TheConstants.Kinds.CLOSED, Keys.mode_cell}
+use Rattle.cap_summary.specs.{Asks.has_any, Check, false, list_any, listed, map, not, refl, true, ◌&&◌, ◌||◌, ◌≡◌}
 use Rattle.cap_summary.proofs.{ap, arith, sym, ◌∙◌}
 use Rattle.cap_summary.proofs.LineAsking.{not_forbidden, refusal_found, success_found}
 use Rattle.cap_machine.specs.Judge.{is_forbidden, judged_by}
-use Rattle.cap_summary.specs.{Check, Keys.mode_cell, declared.kinds.TheConstants.Kinds.CLOSED, list_any, listed}
-use Rattle.cap_summary.specs.Asks.{has_any, has_kind, is_lacked}
 use Rattle.cap_summary.proofs.line_asks.LineAsks.of_line.Goals as goal
 
 pub returns-after-matches-clause-holds : goal.returns-after-matches-clause-holds

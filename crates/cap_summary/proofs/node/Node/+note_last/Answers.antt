@@ -1,6 +1,5 @@
-use Rattle.std.specs.Prelude.{List, length, ◌++◌, ◌+◌, ◌≡◌}
 use Rattle.cap_summary.proofs.{Agreeing.noted_both, Agreeing.noted_later, Runs.same_steps, ap, subst, sym, ◌∙◌}
-use Rattle.cap_summary.specs.{Kept.content_steps, Positions.AreNoted, Step}
+use Rattle.cap_summary.specs.{Kept.content_steps, Positions.AreNoted, Step, List, length, ◌++◌, ◌+◌, ◌≡◌}
 use Rattle.cap_summary.proofs.node.Node.+note_last.Goals as goal
 
 pub returns-in_ok-note_last-in-Both-2-clause-noted : goal.returns-in_ok-note_last-in-Both-2-clause-noted

@@ -1,9 +1,8 @@
-use Rattle.std.specs.Prelude.{List, length, refl, true, ◌++◌, ◌≡◌, ◌≤◌}
 use Rattle.cap_summary.proofs.{Runs.same_steps, ap, arith, inl, inr, length-append, on_ok_weaker, sym, ◌∙◌}
 use Rattle.cap_summary.proofs.Resolving.{found_all, found_outside, many_parts, not_many, some_found, stopped}
 use Rattle.cap_summary.proofs.Judged.{known_ends, run_judged}
 use Rattle.cap_summary.specs.{Asks.has_any, Effects.state_before, Found, Kept.IsKept, Kept.content_steps, State, Step}
-use Rattle.cap_summary.specs.{check}
+use Rattle.cap_summary.specs.{check, List, length, refl, true, ◌++◌, ◌≡◌, ◌≤◌}
 use Rattle.cap_summary.proofs.node.Node.+resolve.Goals as goal
 
 pub returns-then-asked-at-clause-found : goal.returns-then-asked-at-clause-found

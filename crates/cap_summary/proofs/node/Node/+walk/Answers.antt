@@ -1,6 +1,5 @@
-use Rattle.std.specs.Prelude.{List, length, take, ℕ, ◌++◌, ◌≡◌}
 use Rattle.cap_summary.proofs.{Runs.same_steps, Runs.values-take, Walks.walked_parts, ap, arith, on_ok_weaker, sym, ◌∙◌}
-use Rattle.cap_summary.specs.{Kept.content_steps, Step, values}
+use Rattle.cap_summary.specs.{Kept.content_steps, Step, values, List, length, take, ℕ, ◌++◌, ◌≡◌}
 use Rattle.cap_summary.proofs.node.Node.+walk.Goals as goal
 
 pub returns-in-Run : goal.returns-in-Run

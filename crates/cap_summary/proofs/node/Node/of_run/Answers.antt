@@ -1,6 +1,5 @@
-use Rattle.std.specs.Prelude.{◌≡◌}
 use Rattle.cap_tree.proofs.Runs.{values-append_clones}
-use Rattle.cap_summary.specs.{values}
+use Rattle.cap_summary.specs.{values, ◌≡◌}
 use Rattle.cap_summary.proofs.node.Node.of_run.Goals.{In_ok-extend_from_slice}
 use Rattle.cap_summary.proofs.node.Node.of_run.Goals as goal
 

@@ -1,8 +1,7 @@
-use Rattle.std.specs.Prelude.{false, refl, ◌||◌, ◌≡◌}
+use Rattle.cap_summary.specs.{declared.precondition.Precondition.Precondition, false, Preconditions.IsPulledBack, refl}
+use Rattle.cap_summary.specs.{Asks.any_holds, Keys.cells_of, Preconditions.is_met, Preconditions.IsUnionOf, ◌||◌, ◌≡◌}
 use Rattle.cap_summary.proofs.{ap, or-true, precondition.Precondition.join.Goals.In_ok-refuse_all_after, sym, ◌∙◌}
 use Rattle.cap_summary.proofs.Pulling.{always_asked, asked_joined, met_by_asks, met_joined}
-use Rattle.cap_summary.specs.{Asks.any_holds, Keys.cells_of, declared.precondition.Precondition.Precondition}
-use Rattle.cap_summary.specs.Preconditions.{IsPulledBack, IsUnionOf, is_met}
 use Rattle.cap_summary.proofs.precondition.Precondition.join.Goals as goal
 
 pub returns-then-self : goal.returns-then-self
@@ -61,8 +60,7 @@ returns-then-both c =
     always_asked c.args.first.now own later c.always-then-both.result all.met all.settled all.each all.nothing (λ s. sym
     (met_joined c.args.first.now own later (before at) c.refuse_all_after.new.self c.deref.result.now c.if-self.false
     c.if-later.false refl _ (back at) (asked at) (same at) c.deref.ensures.value
-    c.in_ok-refuse_all_after.ensures.more s)
-    ∙ rw c.if-both.true refl)
+    c.in_ok-refuse_all_after.ensures.more s) ∙ rw c.if-both.true refl)
 
 pub returns : goal.returns
 returns c =

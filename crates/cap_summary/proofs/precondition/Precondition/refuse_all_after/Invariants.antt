@@ -1,5 +1,4 @@
-use Rattle.std.specs.Prelude.{All, take, ◌≡◌}
-use Rattle.cap_summary.specs.{list_any}
+use Rattle.cap_summary.specs.{list_any, All, take, ◌≡◌}
 use Rattle.cap_summary.specs.Preconditions.{IsRefusalSaid, IsWithMore, is_wrongful}
 use Rattle.cap_summary.proofs.precondition.Precondition.refuse_all_after.Given as goal
 

@@ -1,5 +1,4 @@
-use Rattle.std.specs.Prelude.{[], false, true, ◌≡◌}
-use Rattle.cap_summary.specs.Preconditions.{IsSaid, IsUnionOf}
+use Rattle.cap_summary.specs.{[], false, Preconditions.IsSaid, Preconditions.IsUnionOf, true, ◌≡◌}
 use Rattle.cap_summary.proofs.{All-nil}
 use Rattle.cap_summary.proofs.precondition.Precondition.settled.Goals as goal
 

@@ -1,5 +1,4 @@
-use Rattle.std.specs.Prelude.{◌+◌, ◌≤◌}
-use Rattle.cap_summary.specs.Sorted.{found}
+use Rattle.cap_summary.specs.{Sorted.found, ◌+◌, ◌≤◌}
 use Rattle.cap_summary.proofs.sorted.merging.merge.Goals.{In-Some, In_ok-made}
 use Rattle.cap_summary.proofs.SortedMerging.{Rises-from, bound_le, left_out, merged_all, put_last}
 use Rattle.cap_summary.proofs.sorted.merging.merge.Goals as goal

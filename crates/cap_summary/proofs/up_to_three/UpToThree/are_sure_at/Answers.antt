@@ -1,6 +1,5 @@
-use Rattle.std.specs.Prelude.{Bool, List, length, ◌≡◌}
 use Rattle.cap_summary.proofs.{ap, arith, fun_ext, take_all, ◌∙◌}
-use Rattle.cap_summary.specs.{Cell, declared.ask.Ask.Ask, list_all}
+use Rattle.cap_summary.specs.{Cell, declared.ask.Ask.Ask, list_all, Bool, List, length, ◌≡◌}
 use Rattle.cap_summary.specs.Asks.{are_sure_at, asks_of, each_kind, has_kind}
 use Rattle.cap_summary.proofs.up_to_three.UpToThree.are_sure_at.Goals as goal
 

@@ -1,5 +1,4 @@
-use Rattle.std.specs.Prelude.{take, ◌≡◌}
-use Rattle.cap_summary.specs.{Asks.are_sure_at, Asks.asks_of, Asks.has_kind, Cell}
+use Rattle.cap_summary.specs.{Asks.are_sure_at, Asks.asks_of, Asks.has_kind, Cell, take, ◌≡◌}
 use Rattle.cap_summary.proofs.up_to_three.UpToThree.are_sure_at.Given as goal
 
 abbrev pub invariant-loop-ask : goal.invariant-loop-ask

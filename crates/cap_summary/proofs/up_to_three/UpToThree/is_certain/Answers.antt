@@ -1,6 +1,5 @@
 use Rattle.std.proofs.{Common.tests, lemmas.Iterator.Search.any_from_yields_List, lemmas.Iterator.YieldsList-from_slice}
-use Rattle.std.specs.Prelude.{◌≡◌}
-use Rattle.cap_summary.specs.{Asks.asks_of, List, declared.ask.Ask.Ask, list_any}
+use Rattle.cap_summary.specs.{Asks.asks_of, List, declared.ask.Ask.Ask, list_any, ◌≡◌}
 use Rattle.cap_summary.proofs.{Together.is_certain_in, Together.none_holds, Together.one_certain, rules, sym, ◌∙◌}
 use Rattle.cap_summary.proofs.up_to_three.UpToThree.is_certain.Goals as goal
 

@@ -1,4 +1,5 @@
-use Rattle.std.proofs.Common.{rules}
+use Rattle.std.proofs.Common.{arith, rules}
+use Rattle.std.proofs.lemmas.Grind.{common_steps}
 use Rattle.cap_tree.proofs.Replaced.{ordered}
 use Rattle.cap_tree.proofs.node.Node.rebalance.Goals as goal
 
@@ -11,3 +12,9 @@ returns-clause-items g c =
 -- The search is written out since a wrong body is refused sooner so (docs/GATE.md).
 pub returns-clause-alike : goal.returns-clause-alike
 returns-clause-alike g c = search rules
+
+pub rotate-requires-then-far-near-clause-few : goal.rotate-requires-then-far-near-clause-few
+rotate-requires-then-far-near-clause-few g c = grind (arith, common_steps)
+
+pub rotate-requires-then-far-near-clause-two_higher : goal.rotate-requires-then-far-near-clause-two_higher
+rotate-requires-then-far-near-clause-two_higher g c = grind (arith, common_steps)
