@@ -4,13 +4,15 @@
 #   make run        shows the report of an example trace, or of TRACE, without a proof: in a minute or two
 #   make test       the gate: every proof, test and stored run, and the wrong bodies under must-fail/, from nothing, and with
 #                   the program that this builds the examples, worked traces and scripts, random ones beside a second reading
-#                   of the rules, each allocation refused in turn, hostile input, the recorder and the annotator; that all
-#                   wrong bodies fit the code, and that scripts can be read
+#                   of the rules, each allocation refused in turn, hostile input, the recorder and the annotator, programs
+#                   under a small kernel with their limits put in; the object linked on Linux and for FreeBSD, and in archives;
+#                   that all wrong bodies fit the code, and that scripts can be read
 #   make examples   the same scripts alone, with ./capcheck
 #   make wrong      the wrong bodies that the gate leaves out (tests/wrong): the prover must refuse each, and it takes hours
 #   make refusals   each call that takes memory, with each of its allocations refused
 #   make bench      times the program, and reading alone, on traces of a million lines beside `wc -l`, and sessions, denials and
 #                   limits beside a check; where valgrind is installed, counts instructions too
+#   make dist       makes the archives of a release in dist/, of a proved build for every x86-64, and tries them (CONTRIBUTING.md)
 #   make install    puts the program, its tools, manual pages and completions under PREFIX (default /usr/local)
 #   make uninstall  takes them away
 
@@ -27,10 +29,13 @@ SOURCES = $(shell find crates -path '*/out' -prune -o -type f -name '*.rt' -prin
 # What runs the built program, each with the program as its argument.
 SCRIPTS = tests/lint.py tests/wrong_bodies_fit.py tests/documents.py tests/examples.sh tests/missing_programs.py \
 	tests/rows.py tests/talks.py tests/out_of_memory.py tests/allocation_counts.py tests/bounds.py tests/hostile_input.py \
-	tests/compare.py tests/recorder.py tests/annotate.py tests/whatif.py tests/install.py
+	tests/compare.py tests/recorder.py tests/kernel.py tests/annotate.py tests/whatif.py tests/install.py
 
-.PHONY: all run test wrong examples refusals bench install clean
+.PHONY: all run test wrong examples refusals bench dist install clean
 all: capcheck
+
+# Those that try devices, and the object, of the same build: linked by others, and in archives.
+SCRIPTS += tests/failing_devices.py tests/native.py tests/archives.py
 
 # Ends with a sentence where one of these programs isn't there.
 needs = @for it in $(1); do command -v $$it >/dev/null || { echo "make $@ needs $$it, which isn't on the path (README.md)." >&2; exit 1; }; done
@@ -75,6 +80,11 @@ bench: capcheck
 	bench/parse_times.py
 	if command -v valgrind >/dev/null; then for script in bench/*_instructions.py; do $$script ./capcheck || exit 1; done; fi
 
+# KIT_NOTICE names a file with the terms of the kit, whose libraries are linked into the program.
+dist:
+	$(call needs,cc git python3 $(RT))
+	packaging/dist.py dist
+
 # What is installed where; DESTDIR goes before each. PROGRAM is the program to install.
 PROGRAM = capcheck
 BIN = $(DESTDIR)$(PREFIX)/bin
@@ -100,4 +110,4 @@ uninstall:
 	rm -f "$(ZSH_COMPLETIONS)/_capcheck"
 
 clean:
-	rm -rf capcheck crates/*/out
+	rm -rf capcheck dist crates/*/out

@@ -5,7 +5,8 @@
 
 The traces are files, or those named in NAMES at 100,000 lines, made from a fixed seed. Needs valgrind. Instructions don't depend
 on how busy the machine is. For each trace: the instructions a line, where line 1 is explained and limits are also asked for before
-line 100, and the functions in which most of those of a check are spent.
+line 100, and the functions in which most of those of a check are spent. For `used`, of which a third are markers, also how its
+check is to that of `quiet`, which has as many lines.
 """
 
 import os
@@ -17,7 +18,7 @@ import tempfile
 
 import traces
 
-NAMES = ("quiet", "forms", "mixed")
+NAMES = ("quiet", "used", "forms", "mixed")
 LINES = 100_000
 # Functions with fewer instructions a line aren't shown.
 LEAST = 20
@@ -57,6 +58,7 @@ def main(words):
     if not shutil.which("valgrind"):
         sys.exit("bench/command_instructions.py needs valgrind, which isn't there.")
     program = os.path.abspath(words[1])
+    checks = {}
     with tempfile.TemporaryDirectory() as folder:
         for name in words[2:] or NAMES:
             path = name
@@ -65,7 +67,9 @@ def main(words):
                 traces.write(name, LINES, path)
             lines, each, rows = measure(program, path, folder)
             parts = [f"{command} {count:,.0f} ({count / each['check']:.2f})" for command, count in each.items()]
-            print(f"{os.path.basename(name)}: {lines:,} lines, instructions a line: {', '.join(parts)}", flush=True)
+            checks[name] = each["check"]
+            beside = f"; {checks['used'] / checks['quiet']:.2f} times the check of quiet" if name == "used" and "quiet" in checks else ""
+            print(f"{os.path.basename(name)}: {lines:,} lines, instructions a line: {', '.join(parts)}{beside}", flush=True)
             for count, function in rows:
                 if count >= LEAST:
                     print(f"  {count:6.0f}  {function}", flush=True)

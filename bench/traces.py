@@ -1,6 +1,7 @@
 """Traces to time the program on, each made anew from a fixed seed."""
 
 import random
+import re
 
 
 def quiet(lines):
@@ -43,6 +44,18 @@ def ten(lines):
     for place in range(10):
         out[64 + place * (len(out) - 64) // 10] = "100 write(0) RET 1"
     return out
+
+
+def used(lines):
+    """As the trace of `quiet`, with rights to wait for descriptors, and a marker of needs after each second line."""
+    out = []
+    for at, line in enumerate(quiet(lines)):
+        out.append(line.replace("CAP_FSTAT", "CAP_EVENT"))
+        if at % 2:
+            fd = (re.findall(r" (?:read|write)\((\d)\)", line) or ["3"])[0]
+            rights = "CAP_READ|CAP_SEEK" if at % 8 == 7 and int(fd) > 2 else "CAP_EVENT"
+            out.append(f"{line.split(' ')[0]} @uses({fd},{rights})")
+    return out[:lines]
 
 
 def wide(lines):
@@ -440,7 +453,7 @@ def held(count, call, times):
 TRACES = {
     make.__name__: make
     for make in (
-        quiet, loud, wide, forms, mixed, crowd, hostile, pairs, spread, closes, socketpairs, chain, long_chain, narrowing, long_narrowing,
+        quiet, loud, used, wide, forms, mixed, crowd, hostile, pairs, spread, closes, socketpairs, chain, long_chain, narrowing, long_narrowing,
         limits, heirs, lineage, families, strangers, starts, packed, execs, turns,
     )
 }

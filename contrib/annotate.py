@@ -37,7 +37,7 @@ TAKES = set(
     fchown fchflags fchdir flock fpathconf futimes futimens ioctl accept accept4 bind connect listen shutdown getpeername
     getsockname getsockopt setsockopt fexecve close closefrom dup dup2 cap_ioctls_limit cap_fcntls_limit cap_rights_limit
     sendto sendmsg fcntl mmap openat mkdirat mkfifoat mknodat readlinkat futimesat unlinkat fstatat fchmodat fchownat
-    chflagsat utimensat symlinkat renameat linkat @start @foreign""".split()
+    chflagsat utimensat symlinkat renameat linkat @start @foreign @uses @refused""".split()
 )
 MAKES = set(
     """open openat accept accept4 dup dup2 socket kqueue shm_open mq_open fhopen pipe pipe2 socketpair
@@ -46,6 +46,7 @@ MAKES = set(
 QUOTED = re.compile(r'"(?:[^"\\]|\\.)*"')
 LINE = re.compile(r"([0-9]+) (@?[a-z_][a-z0-9_]*)\((.*)\)(?: RET (.*))?", re.S)
 REFUSED_BY_KERNEL = re.compile(rb"\) RET -1 errno (93|94)$")
+SAYS_REFUSED = re.compile(rb"[0-9]+ @refused\(")
 LINK = re.compile(r"([0-9]+|mode) (?:([0-9]+) .*|(start .*))")
 DENIAL = re.compile(r"lacks [0-9]+ [A-Z_|]+|inside|unexplained")  # what was lacking for a refused line: no link
 
@@ -58,6 +59,8 @@ WORDS = {
     "refusal": "refusal with errno 93, though every right was there",
     "moderefusal": "moderefusal with errno 94, outside capability mode or though that mode allows it",
 }
+# What is added where a marker has the finding: it speaks of a call.
+OF_MARKERS = {"@uses": ", which a call needed", "@global": ", and a call succeeded"}
 FAULTS = {
     "E1": "the line has more than 1,024 bytes",
     "E2": "the shape of the line is wrong",
@@ -85,7 +88,7 @@ class Finding(NamedTuple):
 
     def words(self):
         """What is wrong, in words."""
-        form = WORDS.get(self.kind, self.kind)
+        form = WORDS.get(self.kind, self.kind) + OF_MARKERS.get(self.call, "")
         return form.format(rights="|".join(self.rights), descriptor=self.descriptor)
 
 
@@ -188,9 +191,9 @@ def descriptors_of(line):
 
 
 def errno_of(line):
-    """93 or 94 where the kernel refused the call with it, else 0."""
+    """93 or 94 where the kernel refused the call with it, 93 of the marker that says so, else 0."""
     found = REFUSED_BY_KERNEL.search(line)
-    return int(found[1]) if found else 0
+    return int(found[1]) if found else 93 if SAYS_REFUSED.match(line) else 0
 
 
 def explanation_of(program, trace, row):

@@ -2,8 +2,9 @@
 """Makes a trace for capcheck out of a recording that FreeBSD's truss(1) wrote: truss -f -o RECORDING COMMAND
 
 Each call that capcheck has a form for is written by that form, each other call unchanged where its arguments can be
-spelled. What the trace can't show becomes @foreign, a process's end @exit, and --start gives the first process its
-descriptors. The line of a fork is moved before the first line of its child. docs/RECORDING.md has the rules.
+spelled. What a kernel demands beside that becomes @uses and @global, what the trace can't show @foreign, a process's
+end @exit, and --start gives the first process its descriptors. The line of a fork is moved before the first line of its
+child. docs/RECORDING.md has the rules.
 
 Exit status: 0 where every line was read, 1 where some were not (standard error says which), 2 where it ended early or
 nothing was read. Of a recording that can't be read comes a trace that capcheck refuses.
@@ -16,6 +17,7 @@ import itertools
 import re
 import sys
 import time
+import typing
 
 VERSION = "0.2.0"  # that of capcheck
 EXAMPLE = """\
@@ -33,11 +35,20 @@ MOST_LINES = 1_000_000
 LAST_ERRNO = 65_535
 NOT_CAPABLE = 93
 MOST_NOTES = 10  # of a kind
+MOST_NAMES = 12  # of calls that aren't judged, in a trace's first line
 LONGEST_QUOTE = 80
 
 
 class LeftOut(Exception):
     """The call is read, and a trace has no line for it."""
+
+
+class TooLong(LeftOut):
+    """Its line would be too long. Its arguments in the trace's spelling are kept."""
+
+    def __init__(self, words):
+        super().__init__("a line of more than 1,024 bytes")
+        self.words = words
 
 
 class Strange(Exception):
@@ -195,6 +206,10 @@ def rights(args):
                 raise LeftOut("CAP_SEEK_TELL without CAP_SEEK")
         elif name not in NEEDLESS:
             raise LeftOut("a right without a name here")
+    return spelled_rights(held)
+
+
+def spelled_rights(held):
     return "|".join(f"CAP_{name}" for name in RIGHTS if name in held) or "NONE"
 
 
@@ -295,6 +310,8 @@ def two_paths(args, _):
     return [path(old), path(new)], []
 
 
+AT_CALLS = set("""openat mkdirat mkfifoat mknodat readlinkat futimesat unlinkat fstatat fchmodat fchownat chflagsat utimensat
+symlinkat renameat linkat""".split())
 ACCESS = {"O_RDONLY", "O_WRONLY", "O_RDWR", "O_EXEC", "O_SEARCH", "O_PATH"}
 
 
@@ -388,41 +405,136 @@ OTHERS_MADE = set("kqueuex shm_open2 posix_openpt sctp_peeloff timerfd_create in
 # sound, pulses. Any other command may make some.
 IOCTL = re.compile("(?:TIOC|FIO|SIOC|BIOC|DIOC|MTIOC|CDIOC|CIOC|CONS_|KD|VT_|SNDCTL_|SOUND_|PPS_)[A-Z0-9_]*")
 
-# Calls without a form that make no descriptor. After any other call that isn't known here some descriptors may be new.
-# Those of the first list need no right and are allowed in capability mode.
-FREE = set(
-    """__cap_rights_get _umtx_op break cap_fcntls_get cap_getmode cap_ioctls_get cap_rights_get clock_getcpuclockid2
-    clock_getres clock_gettime clock_nanosleep close_range exit getaudit getaudit_addr getauid getcontext getdtablesize
-    getegid geteuid getgid getgroups getitimer getlogin getloginclass getpgid getpgrp getpid getppid getpriority getrandom
-    getresgid getresuid getrlimit getrusage getsid gettimeofday getuid issetugid ktimer_create ktimer_delete
-    ktimer_getoverrun ktimer_gettime ktimer_settime madvise mincore minherit mlock mlockall mprotect msync munlock munlockall
-    munmap nanosleep ntp_gettime obreak profil rtprio rtprio_thread sched_get_priority_max sched_get_priority_min
-    sched_getcpu sched_getparam sched_getscheduler sched_rr_get_interval sched_setparam sched_setscheduler sched_yield
-    setaudit setaudit_addr setauid setcontext setegid seteuid setgid setitimer setpriority setregid setresgid setresuid
-    setreuid setrlimit setsid setuid sigaction sigaltstack sigfastblock sigpending sigprocmask sigqueue sigreturn sigsuspend
-    sigtimedwait sigwait sigwaitinfo swapcontext sync sysarch thr_kill thr_new thr_self thr_set_name thr_suspend thr_wake
-    umask utrace uuidgen yield""".split()
+# What a kernel demands of a call that succeeded. tests/kernel.tsv says where each line is from; what that has from
+# memory is untested on FreeBSD. A line has the arguments of its calls, the rights that are needed of a descriptor
+# among them (a star is the call's name; where none is named it has to be open), and where capability mode forbids the
+# calls. RULES is what capcheck's rules say themselves. NEEDS is the rest, with the first and the last kernel and how
+# sure it is: SURE is 0.95 or more there, MIDDLE 0.80 or more, and SILENT what a kernel refuses without an error.
+
+SURE, MIDDLE, SILENT, RULED = "sure", "middle", "silent", "by capcheck's rules"
+KERNELS = (12, 13, 14, 15)  # 12.2, 13.2-p4, 14.0, 15.0
+KERNEL = 14  # where none is named
+
+RULES = (
+    ("FD,..", "FD:READ", "", "read readv recvfrom recvmsg"),
+    ("FD,..", "FD:READ SEEK", "", "pread preadv"),
+    ("FD,..", "FD:WRITE", "", "write writev"),
+    ("FD,..", "FD:WRITE SEEK", "", "pwrite pwritev"),
+    ("FD,..", "FD:SEEK", "", "lseek"),
+    ("FD,..", "FD:FSYNC", "", "fsync fdatasync"),
+    ("FD,..", "FD:FUTIMES", "", "futimes futimens"),
+    ("FD,..", "FD:*", "", """fstat fstatfs ftruncate fchmod fchown fchflags fchdir flock fpathconf ioctl accept bind
+     connect listen shutdown getpeername getsockname getsockopt setsockopt fexecve"""),
+    ("FD,..", "FD:ACCEPT", "", "accept4"),
+    ("FD,..", "FD:", "", "close dup dup2 cap_ioctls_limit cap_fcntls_limit"),
+    ("FD,DEST", "FD:WRITE; FD:CONNECT if DEST", "", "sendto sendmsg"),
+    ("FD,PROT,FLAGS", "FD:MMAP; FD:READ SEEK if PROT_READ; FD:MMAP_X SEEK if PROT_EXEC; FD:WRITE SEEK if writable", "",
+     "mmap"),
+    ("FD,FLAGS", "FD: if F_DUPFD F_DUPFD_CLOEXEC F_DUP2FD F_DUP2FD_CLOEXEC F_GETFD F_SETFD", "", "fcntl"),
+    ("FD,FLAGS", "FD:FLOCK if F_GETLK F_SETLK F_SETLKW; FD:FCNTL if F_GETFL F_SETFL F_GETOWN F_SETOWN", "", "fcntl"),
+    ("DIR,PATH,FLAGS", "DIR:LOOKUP; DIR:READ if reads; DIR:WRITE if writes; DIR:FEXECVE if executes", "AT_FDCWD",
+     "openat"),
+    ("DIR,PATH,FLAGS", "DIR:CREATE if O_CREAT; DIR:FTRUNCATE if O_TRUNC; DIR:FSYNC if O_SYNC O_FSYNC; "
+     "DIR:FLOCK if O_EXLOCK O_SHLOCK", "", "openat"),
+    ("DIR,PATH,..", "DIR:* LOOKUP", "AT_FDCWD", "mkdirat mkfifoat mknodat unlinkat"),
+    ("DIR,PATH,..", "DIR:FSTAT LOOKUP", "AT_FDCWD", "fstatat"),
+    ("DIR,PATH,..", "DIR:FCHMOD LOOKUP", "AT_FDCWD", "fchmodat"),
+    ("DIR,PATH,..", "DIR:FCHOWN LOOKUP", "AT_FDCWD", "fchownat"),
+    ("DIR,PATH,..", "DIR:FCHFLAGS LOOKUP", "AT_FDCWD", "chflagsat"),
+    ("DIR,PATH,..", "DIR:FUTIMES LOOKUP", "AT_FDCWD", "futimesat utimensat"),
+    ("DIR,PATH,..", "DIR:LOOKUP", "AT_FDCWD", "readlinkat"),
+    ("TARGET,DIR,PATH", "DIR:* LOOKUP", "AT_FDCWD", "symlinkat"),
+    ("DIR,PATH,TO,NAME,..", "DIR:LINKAT_SOURCE LOOKUP; TO:LINKAT_TARGET LOOKUP", "AT_FDCWD", "linkat"),
+    ("DIR,PATH,TO,NAME", "DIR:RENAMEAT_SOURCE LOOKUP; TO:RENAMEAT_TARGET LOOKUP", "AT_FDCWD", "renameat"),
+    ("PATH,..", "", "forbidden", """open execve access chdir chflags chmod chown lchown lstat mkdir mkfifo mknod
+     readlink rmdir stat statfs truncate unlink link rename symlink"""),
 )
-NEUTRAL = FREE | set(
-    """__acl_aclcheck_fd __acl_aclcheck_file __acl_aclcheck_link __acl_delete_fd __acl_delete_file __acl_delete_link
-    __acl_get_fd __acl_get_file __acl_get_link __acl_set_fd __acl_set_file __acl_set_link __getcwd __getlogin __mac_get_fd
-    __mac_get_file __mac_get_link __mac_get_pid __mac_get_proc __mac_set_fd __mac_set_file __mac_set_link __mac_set_proc
-    __semctl __setugid __sysctl __sysctlbyname acct adjtime aio_cancel aio_error aio_fsync aio_mlock aio_read aio_readv
-    aio_return aio_suspend aio_waitcomplete aio_write aio_writev audit auditctl auditon bindat chroot clock_settime connectat
-    copy_file_range cpuset cpuset_getaffinity cpuset_getdomain cpuset_getid cpuset_setaffinity cpuset_setdomain cpuset_setid
-    eaccess extattr_delete_fd extattr_delete_file extattr_delete_link extattr_get_fd extattr_get_file extattr_get_link
-    extattr_list_fd extattr_list_file extattr_list_link extattr_set_fd extattr_set_file extattr_set_link extattrctl faccessat
-    fchroot ffclock_getcounter ffclock_getestimate ffclock_setestimate fhlink fhlinkat fhreadlink fhstat fhstatfs fspacectl
-    funlinkat getdents getdirentries getfh getfhat getfsstat getrlimitusage gettid inotify_add_watch_at inotify_rm_watch
-    jail_attach jail_remove kcmp kenv kevent kill killpg kldfind kldfirstmod kldload kldnext kldstat kldsym kldunload
-    kldunloadf kmq_notify kmq_setattr kmq_timedreceive kmq_timedsend kmq_unlink ksem_close ksem_destroy ksem_getvalue
-    ksem_post ksem_timedwait ksem_trywait ksem_unlink ksem_wait ktrace lchflags lchmod lgetfh lio_listio lpathconf lutimes
-    membarrier modfind modfnext modnext modstat mount msgctl msgget msgrcv msgsnd msgsys nfstat nlstat nmount
-    nstat ntp_adjtime pathconf pdgetpid pdkill pdwait poll posix_fadvise posix_fallocate ppoll procctl pselect ptrace
-    quotactl rctl_add_rule rctl_get_limits rctl_get_racct rctl_get_rules rctl_remove_rule revoke sctp_generic_recvmsg
-    sctp_generic_sendmsg sctp_generic_sendmsg_iov select semctl semget semop semsys sendfile setcred setfib setgroups
-    setlogin setloginclass setpgid settimeofday shm_rename shm_unlink shmat shmctl shmdt shmget swapoff swapon sysctl
-    thr_kill2 thr_sleep undelete unmount utimes wait4 wait6""".split()
+NEEDS = (
+    ("DIR,PATH,FLAGS", "DIR:SEEK if overwrites", "", 12, 15, SURE, "openat"),
+    ("DIR,PATH,TO,NAME", "TO:UNLINKAT if there", "", 12, 15, SURE, "renameat"),
+    ("FD,FLAGS", "FD:FLOCK if F_SETLK_REMOTE", "", 12, 15, SURE, "fcntl"),
+    ("FD,FLAGS", "FD:FLOCK if F_OGETLK F_OSETLK F_OSETLKW", "", 12, 15, MIDDLE, "fcntl"),
+    ("FD,FLAGS", "FD: if F_RDAHEAD F_READAHEAD F_ADD_SEALS F_GET_SEALS F_ISUNIONSTACK F_KINFO", "", 12, 15, MIDDLE,
+     "fcntl"),
+    ("POLLED", "FD:EVENT", "", 12, 15, SILENT, "poll ppoll"),
+    ("SELECTED", "FD:EVENT", "", 12, 15, SURE, "select pselect"),
+    ("CHANGED", "KQ:KQUEUE_CHANGE if N; KQ:KQUEUE_EVENT if M; FD:EVENT", "", 12, 15, SURE, "kevent"),
+    ("FD,..", "FD:READ", "", 12, 15, SURE, "getdirentries getdents"),
+    ("FD,S,..", "FD:READ SEEK; S:WRITE", "", 12, 15, SURE, "sendfile"),
+    ("IN,INOFF,OUT,OUTOFF,..", "IN:READ; OUT:WRITE; IN:SEEK if INOFF; OUT:SEEK if OUTOFF", "", 13, 15, SURE,
+     "copy_file_range"),
+    ("FD,..", "FD:WRITE SEEK", "", 12, 15, MIDDLE, "posix_fallocate"),
+    ("FD,..", "FD:WRITE SEEK", "", 14, 15, MIDDLE, "fspacectl"),
+    ("DIR,PATH,..", "DIR:FSTAT LOOKUP", "AT_FDCWD", 12, 15, SURE, "faccessat"),
+    ("DIR,PATH,FD,..", "DIR:UNLINKAT LOOKUP; FD: if given", "AT_FDCWD", 13, 15, SURE, "funlinkat"),
+    ("DIR,S,..", "DIR:* LOOKUP; S:BIND", "AT_FDCWD", 12, 15, SURE, "bindat"),
+    ("DIR,S,..", "DIR:* LOOKUP; S:CONNECT", "AT_FDCWD", 12, 15, SURE, "connectat"),
+    ("FD,..", "FD:*", "", 12, 15, SURE, """pdgetpid pdkill sctp_peeloff extattr_get_fd extattr_set_fd extattr_delete_fd
+     extattr_list_fd __acl_get_fd __acl_set_fd __acl_delete_fd __mac_get_fd __mac_set_fd"""),
+    ("FD,..", "FD:ACL_CHECK", "", 12, 15, SURE, "__acl_aclcheck_fd"),
+    ("S,DATA,LEN,TO,TOLEN,..", "S:WRITE; S:CONNECT if TO", "", 12, 15, MIDDLE,
+     "sctp_generic_sendmsg sctp_generic_sendmsg_iov"),
+    ("S,..", "S:READ", "", 12, 15, MIDDLE, "sctp_generic_recvmsg"),
+    ("MQ,..", "MQ:WRITE", "", 12, 15, MIDDLE, "kmq_timedsend"),
+    ("MQ,..", "MQ:READ", "", 12, 15, MIDDLE, "kmq_timedreceive"),
+    ("FD,..", "FD:", "", 12, 15, MIDDLE, "aio_cancel cap_rights_get cap_ioctls_get cap_fcntls_get"),
+    ("VERSION,FD,..", "FD:", "", 12, 15, MIDDLE, "__cap_rights_get"),
+    ("DIR,..", "DIR:LOOKUP", "forbidden", 12, 15, MIDDLE, "getfhat"),
+
+    ("..", "", "forbidden", 12, 15, SURE, "bind connect fhopen"),
+    ("..", "", "forbidden", 12, 15, MIDDLE, "fchdir mq_open kmq_open"),
+    ("FD,DEST", "", "with a destination", 12, 15, SURE, "sendto sendmsg"),
+    ("SHM,..", "", "with a name", 12, 15, SURE, "shm_open shm_open2"),
+    ("PID,..", "", "another process", 12, 15, SURE, "kill"),
+    ("LEVEL,WHICH,ID,..", "", "another's processors", 12, 15, SURE,
+     "cpuset_getaffinity cpuset_setaffinity cpuset_getdomain cpuset_setdomain"),
+    ("DOMAIN,TYPE,..", "", "other sockets", 13, 15, MIDDLE, "socket socketpair"),
+    ("FD,COMMAND,..", "", "network configuration", 13, 15, MIDDLE, "ioctl"),
+    ("FDP,FLAGS", "", "as a daemon", 12, 15, MIDDLE, "pdfork"),
+    ("..", "", "forbidden", 12, 14, MIDDLE, "wait4 wait6"),
+    ("..", "", "forbidden", 13, 15, MIDDLE, "shm_rename"),
+    ("..", "", "forbidden", 12, 15, MIDDLE, """__getcwd __mac_execve cpuset cpuset_getid cpuset_setid
+     ffclock_setestimate gssd_syscall kmq_unlink ksem_init ksem_open ksem_unlink msgsys nlm_syscall rctl_add_rule
+     rctl_get_limits rctl_get_racct rctl_get_rules rctl_remove_rule rpctls_syscall semsys setlogin setloginclass shmsys
+     thr_kill2"""),
+    ("..", "", "forbidden", 12, 15, SURE, """__acl_aclcheck_file __acl_aclcheck_link __acl_delete_file __acl_delete_link
+     __acl_get_file __acl_get_link __acl_set_file __acl_set_link __mac_get_file __mac_get_link __mac_get_pid
+     __mac_set_file __mac_set_link __semctl acct adjtime audit auditctl auditon chroot clock_settime eaccess
+     extattr_delete_file extattr_delete_link extattr_get_file extattr_get_link extattr_list_file extattr_list_link
+     extattr_set_file extattr_set_link extattrctl fhlink fhlinkat fhreadlink fhstat fhstatfs getfh getfsstat jail
+     jail_attach jail_get jail_remove jail_set kenv kldfind kldfirstmod kldload kldnext kldstat kldsym kldunload
+     kldunloadf ktrace lchflags lchmod lgetfh lpathconf lutimes modfind modfnext modnext modstat mount msgctl msgget
+     msgrcv msgsnd nfssvc nmount ntp_adjtime pathconf ptrace quotactl reboot revoke semget semop settimeofday shm_unlink
+     shmat shmctl shmdt shmget swapoff swapon undelete unmount utimes"""),
+)
+DEMANDED = {name for *_, calls in NEEDS for name in calls.split()}
+
+# Calls without a form that need no right and are allowed in capability mode.
+FREE = set(
+    """__cap_rights_get __mac_get_proc __mac_set_proc _umtx_op abort2 aio_error aio_return aio_suspend aio_waitcomplete
+    break cap_fcntls_get cap_getmode cap_ioctls_get cap_rights_get clock_getres clock_gettime clock_nanosleep
+    close_range exit getaudit getaudit_addr getauid getcontext getdtablesize getegid geteuid getgid getgroups getitimer
+    getlogin getloginclass getpgid getpgrp getpid getppid getpriority getrandom getresgid getresuid getrlimit getrusage
+    getsid gettimeofday getuid issetugid kqueuex ktimer_create ktimer_delete ktimer_getoverrun ktimer_gettime
+    ktimer_settime madvise mincore minherit mlock mlockall mprotect msync munlock munlockall munmap nanosleep
+    ntp_gettime obreak profil rtprio rtprio_thread sbrk sched_get_priority_max sched_get_priority_min sched_getparam
+    sched_getscheduler sched_rr_get_interval sched_setparam sched_setscheduler sched_yield setaudit setaudit_addr
+    setauid setcontext setegid seteuid setgid setitimer setpriority setregid setresgid setresuid setreuid setrlimit
+    setsid setuid sigaction sigaltstack sigfastblock sigpending sigprocmask sigreturn sigsuspend sigtimedwait sigwait
+    sigwaitinfo sync sysarch thr_create thr_kill thr_new thr_self thr_set_name thr_exit thr_suspend thr_wake umask
+    utrace uuidgen yield""".split()
+)
+
+# Calls without a form that make no descriptor. After any other call that isn't known here some descriptors may be new.
+NEUTRAL = FREE | DEMANDED - set(
+    """__mac_execve gssd_syscall jail jail_get jail_set ksem_init ksem_open nfssvc nlm_syscall reboot rpctls_syscall
+    shmsys""".split()
+) | set(
+    """__getlogin __setugid __sysctl __sysctlbyname aio_fsync aio_mlock aio_read aio_readv aio_write aio_writev
+    clock_getcpuclockid2 fchroot ffclock_getcounter ffclock_getestimate getrlimitusage gettid inotify_add_watch_at
+    inotify_rm_watch kcmp killpg kmq_notify kmq_setattr ksem_close ksem_destroy ksem_getvalue ksem_post ksem_timedwait
+    ksem_trywait ksem_wait lio_listio membarrier nfstat nlstat nstat pdwait posix_fadvise procctl sched_getcpu semctl
+    setcred setfib setgroups setpgid sigqueue swapcontext sysctl thr_sleep""".split()
 )
 
 # Calls with a form whose rule is a part of the kernel's.
@@ -439,9 +551,36 @@ UNKNOWN = "open or closed"
 CLOSED = "closed"
 AFTER_EXEC = {CLOSES: CLOSED, LOOSE: CLOSED, OPEN: UNKNOWN}
 
-FOREIGN = "@foreign({})"
-CLEAR = "fcntl({},F_SETFD,0) RET 0"
-SET = "fcntl({},F_SETFD,FD_CLOEXEC) RET 0"
+
+class Line(typing.NamedTuple):
+    """A line of a trace. That of a call that is left out has no text."""
+
+    pid: int
+    name: str
+    words: list
+    text: str
+    number: int = 0  # the line of the recording
+    answer: int = None
+    errno: int = None
+    uses: list = ()  # descriptors
+    demand: object = None  # a Demand, where the call demands more than its line says
+    message: object = None  # that sendmsg sent, or that @foreign received as a pair with the descriptor's place in it
+
+
+class Message:
+    """Descriptors that were sent."""
+
+    def __init__(self, fds):
+        self.fds = fds
+
+
+def foreign_line(pid, fd, message=None):
+    return Line(pid, "@foreign", [str(fd)], f"{pid} @foreign({fd})", message=message)
+
+
+def flag_line(pid, fd, closes=False):
+    words = [str(fd), "F_SETFD", "FD_CLOEXEC" if closes else "0"]
+    return Line(pid, "fcntl", words, f"{pid} fcntl({','.join(words)}) RET 0", answer=0, uses=[fd])
 
 
 class Place:
@@ -451,7 +590,7 @@ class Place:
         self.pid, self.line, self.fds = pid, line, set()
 
     def lines(self):
-        return [f"{self.pid} {self.line.format(fd)}" for fd in sorted(self.fds)]
+        return [self.line(self.pid, fd) for fd in sorted(self.fds)]
 
 
 class Process:
@@ -568,40 +707,57 @@ def state_of(held, closes):
 class Converter:
     """Takes a recording line by line, and keeps the trace's lines in `steps`, with places between them."""
 
-    def __init__(self, start=None):
+    def __init__(self, notes, start=None, kernel=None, failed=False):
         self.steps = []
+        self.notes = notes
         self.start = start
+        self.kernel, self.failed = kernel, failed
         self.begin = None  # the place after @start
         self.processes = {}
+        self.number = 0  # the line of the recording
         self.calls = 0  # how many of the recording's calls were written
-        self.unjudged = collections.Counter()  # those that a kernel may refuse and capcheck doesn't judge, by name
+        self.unjudged = collections.Counter()  # by name: a kernel may refuse them, and nothing says what it demands
+        self.first = None  # the first line with one of these
+        self.messages = []  # those with descriptors that were sent and not yet received
         self.status = 0
 
-    def trace(self):
+    def lines(self):
         for step in self.steps:
             if isinstance(step, Place):
                 yield from step.lines()
             else:
                 yield step
 
-    def place(self, pid, line=FOREIGN):
+    def trace(self):
+        """The trace's lines."""
+        if self.kernel:
+            return Follower(self.kernel, self.notes).trace(list(self.lines()))
+        return (line.text for line in self.lines() if line.text)
+
+    def heading(self):
+        """The comment at the trace's beginning."""
+        if not self.kernel:
+            return "# no kernel's needs"
+        return unjudged_comment(f"# kernel {self.kernel}", self.unjudged, self.first)
+
+    def place(self, pid, line=foreign_line):
         self.steps.append(Place(pid, line))
         return self.steps[-1]
 
-    def foreign(self, pid, process, fd):
+    def foreign(self, pid, process, fd, message=None):
         """Nothing is known of it from here on, but that it is open."""
-        self.steps.append(f"{pid} {FOREIGN.format(fd)}")
+        self.steps.append(foreign_line(pid, fd, message))
         process.shown[fd] = OPEN
 
-    def made(self, pid, process, fd):
+    def made(self, pid, process, fd, message=None):
         """A call has made it that doesn't say so."""
         if 0 <= fd <= LAST_DESCRIPTOR:
             process.made(fd, OPEN)
-            self.foreign(pid, process, fd)
+            self.foreign(pid, process, fd, message)
 
     def flag(self, pid, process, fd, closes):
         """A close-on-exec flag that another call than fcntl has changed."""
-        self.steps.append(f"{pid} {(SET if closes else CLEAR).format(fd)}")
+        self.steps.append(flag_line(pid, fd, closes))
         process.flagged(fd, closes)
 
     def hide(self, pid, process):
@@ -622,13 +778,14 @@ class Converter:
         if not 1 <= pid <= LAST_PID:
             raise Strange("a process number out of range")
         if self.start is not None and not self.begin:
-            self.steps.append(f"{pid} @start({','.join(map(str, self.start))})")
-            self.begin = self.place(pid, CLEAR)
+            words = [str(fd) for fd in self.start]
+            self.steps.append(Line(pid, "@start", words, f"{pid} @start({','.join(words)})"))
+            self.begin = self.place(pid, flag_line)
             self.processes[pid] = Process(closed_from=0)
             self.processes[pid].shown = {fd: KEPT for fd in self.start}
         if rest[:1] == "p" and ENDED.fullmatch(rest):
             self.processes.pop(pid, None)
-            self.steps.append(f"{pid} @exit()")
+            self.steps.append(Line(pid, "@exit", [], f"{pid} @exit()"))
             return
         process = self.processes.get(pid)
         if not process:
@@ -665,34 +822,99 @@ class Converter:
 
     def call(self, pid, process, name, args, answer, errno):
         """A call with its answer or its errno; the other one of the two is None."""
-        written, args = renamed(name, args, answer)
+        written, told = renamed(name, args, answer)
         try:
-            text, words, uses = spelled(pid, written, args, answer, errno)
+            text, words, uses = spelled(pid, written, told, answer, errno)
         except (LeftOut, Strange) as why:
-            self.count(name, [])
-            if answer is not None:
-                self.left_out(pid, process, written, args, answer, isinstance(why, Strange))
+            self.unwritten(pid, process, (name, written), (args, told), answer, errno, why)
             raise
-        self.count(name, words)
+        demand = self.demanded(pid, (name, written), args, words, answer, errno)
+        message = self.sent(written, args, answer)
         self.calls += 1
-        if answer is not None or errno == NOT_CAPABLE:
-            for fd in uses:
+        more = message.fds if message else demand.descriptors() if demand else []
+        if answer is not None or errno == NOT_CAPABLE or demand:
+            for fd in [*uses, *(fd for fd in more if fd not in uses)]:
                 self.explain(pid, process, fd)
-        place = self.place(pid, CLEAR) if written in EXECS and answer is not None else None
-        self.steps.append(text)
+        place = self.place(pid, flag_line) if written in EXECS and answer is not None else None
+        self.steps.append(Line(pid, written, words, text, self.number, answer, errno, uses, demand, message))
+        for fd in more if not demand or demand.outcome != "refused" else ():
+            process.used(fd)
         if answer is not None:
             for fd in uses:
                 process.used(fd)
-            self.effect(pid, process, written, args, words, answer, place)
+            self.effect(pid, process, written, told, words, answer, place)
             if name != written and name == "pdfork":
                 self.hidden_fork(pid, process, answer)
         elif written == "close" and errno != 9:
             process.shown[int(words[0])] = UNKNOWN
 
-    def count(self, name, words):
-        """Counts a call that a kernel may refuse by Capsicum's rules, and that capcheck judges in part or not at all."""
-        if name in IN_PART or words[-1:] == ["DEST"] or name not in FORMS and name not in FREE:
+    def unwritten(self, pid, process, names, args, answer, errno, why):
+        """A call that a trace has no line for may have needs, and something made."""
+        is_form, words = names[1] in FORMS, getattr(why, "words", None)
+        if isinstance(why, Strange) or is_form and words is None:
+            self.count(names[0], [], answer, names[0] not in DEMANDED or not self.kernel)
+        else:
+            demand = self.demanded(pid, names, args[0], words, answer, errno, ruled=is_form)
+            if demand:
+                for fd in demand.descriptors():
+                    self.explain(pid, process, fd)
+                    if demand.outcome != "refused":
+                        process.used(fd)
+                self.steps.append(Line(pid, names[1], words or [], None, self.number, answer, errno, [], demand))
+        if answer is not None:
+            self.left_out(pid, process, names[1], args[1], answer, isinstance(why, Strange))
+
+    # ---- What a kernel demands
+
+    def demanded(self, pid, names, args, words, answer, errno, ruled=False):
+        """What a call demands beside its line, or all that it demands; and it is counted where that isn't known."""
+        name, written = names
+        is_known, demand, outcome = name in DEMANDED and bool(self.kernel), None, self.outcome(name, answer, errno)
+        ruled = ruled or bool(outcome) and answer is None
+        asked = written if written in ("mkfifoat", "fcntl") else name
+        if outcome and (ruled or asked in beyond(self.kernel)):
+            spelled_words = tuple(words) if written in FORMS and words is not None else None
+            more = {"pid": pid} if name in OF_PROCESSES else {"answer": answer} if name == "kevent" else {}
+            try:
+                demand = demand_of(self.kernel, asked, args, spelled_words, outcome, ruled, **more)
+            except (Strange, LeftOut):
+                is_known = False
+        self.count(name, words or [], answer, not is_known)
+        if name in ("open", "openat") and written == "fcntl" and self.kernel:  # of a device that copies a descriptor
+            return Demand("used", [], SURE)
+        if demand and outcome != "used":
+            demand = demand._replace(mode="", leaves=[])
+        return demand if demand and (demand.needs or demand.mode) else None
+
+    def outcome(self, name, answer, errno):
+        """How a call's needs are said, or nothing where they aren't."""
+        if not self.kernel:
+            return ""
+        if answer is not None or errno == IN_PROGRESS and name in ("connect", "connectat"):
+            return "used"
+        if errno == NOT_CAPABLE and name not in FORMS:
+            return "refused"
+        return "failed" if self.failed and errno in FAILED_LATE else ""
+
+    def count(self, name, words, answer, is_unknown):
+        """Counts a call that a kernel may refuse by Capsicum's rules, if nothing in the trace says what it demands."""
+        is_formless = name not in FORMS and name not in FREE
+        if self.kernel:
+            counts = answer is not None and is_unknown and (is_formless or name in DEMANDED - FREE or name == "vfork")
+        else:
+            counts = is_formless or name in IN_PART or words[-1:] == ["DEST"]
+        if counts:
             self.unjudged[name] += 1
+            self.first = min(self.first or self.number, self.number)
+
+    def sent(self, name, args, answer):
+        """The descriptors of a message that was sent."""
+        if name == "sendmsg" and answer is not None and self.kernel:
+            fds = listed_rights(args)
+            if fds and max(fds) <= LAST_DESCRIPTOR:
+                self.messages.append(Message(fds))
+                return self.messages[-1]
+        return None
 
     def explain(self, pid, process, fd):
         """A call shows the descriptor to be open."""
@@ -806,10 +1028,13 @@ class Converter:
 
     def received(self, pid, process, args):
         """Descriptors that came in a message."""
-        lists = re.findall(r"SCM_RIGHTS,data=\{? ?([0-9, ]*?) ?\}", args)
-        for fd in re.findall(r"[0-9]{1,9}", ",".join(lists)):
-            self.made(pid, process, int(fd))
-        if "SCM_RIGHTS" in args and not lists or not re.search(r",\{.*\},[^,]*$", args, re.S):
+        listed = listed_rights(args)
+        message = next((message for message in self.messages if len(message.fds) == len(listed or ())), None)
+        if message:
+            self.messages.remove(message)
+        for at, fd in enumerate(listed or ()):
+            self.made(pid, process, fd, message and (message, at))
+        if "SCM_RIGHTS" in args and listed is None or not re.search(r",\{.*\},[^,]*$", args, re.S):
             self.hide(pid, process)
 
     def controlled(self, pid, process, args):
@@ -884,6 +1109,12 @@ def makes_shared_memory(args):
     return shared and parts[2] not in ("0x4", "0x8", "4", "8", "UMTX_SHM_DESTROY", "UMTX_SHM_ALIVE")
 
 
+def listed_rights(args):
+    """The descriptors of a message, where truss shows them: {level=SOL_SOCKET,type=SCM_RIGHTS,data={5,6}}"""
+    lists = re.findall(r"SCM_RIGHTS,data=\{? ?([0-9, ]*?) ?\}", args)
+    return [int(fd) for fd in re.findall(r"[0-9]{1,9}", ",".join(lists))] if lists else None
+
+
 def shown_pair(args):
     """The two descriptors of a pipe, where truss shows them: { 3, 4 }"""
     found = re.search(r"[{\[] ?([0-9]{1,7}), ?([0-9]{1,7}) ?[}\]]", args)
@@ -900,10 +1131,15 @@ def shown_descriptor(args):
 COPIED = re.compile(r'(?:[^",]*,)?"/+dev/+(?:(stdin|stdout|stderr)|fd/+(0|[1-9][0-9]{0,8}))",([^",]*)(?:,[^",]*)?')
 
 
+FIFO = re.compile(r",(?:0?01[0-7]{4}|0x1[0-9a-f]{3}|S_IFIFO\|[^,]*),[^,]*$")
+
+
 def renamed(name, args, answer):
     """Some calls that succeeded are another one by a new name, or with these arguments."""
     if name == "kmq_open":
         return "mq_open", args
+    if name == "mknodat" and FIFO.search(args):
+        return "mkfifoat", args
     if name == "pdfork" and answer is not None and shown_descriptor(args) is None:
         return "fork", ""
     if name in ("open", "openat") and answer is not None:
@@ -939,7 +1175,7 @@ def spelled(pid, name, args, answer, errno):
         result = spelled_answer(name, args, words, answer)
     text = f"{pid} {name}({','.join(words)}) RET {result}"
     if len(text) > LONGEST:
-        raise LeftOut("a line of more than 1,024 bytes")
+        raise TooLong(words)
     return text, words, uses
 
 
@@ -960,6 +1196,632 @@ def spelled_answer(name, args, words, answer):
         if name == "pdfork":
             return f"{answer},{shown_descriptor(args)}"
     return str(answer if answer >= 0 else answer + (1 << 64))
+
+
+# What a call needs, by the table
+
+NULL = {"NULL", "0x0", "0"}
+# kevent's filters of descriptors
+WATCHED = {"EVFILT_READ", "EVFILT_WRITE", "EVFILT_VNODE", "EVFILT_PROCDESC", "EVFILT_EMPTY"}
+CHANGE = re.compile(r" ([^, ]+),([^, ]+),([^, ]+),([^ ]*),([^, ]+),([^, ]+)(?= |$)")
+FAILED_LATE = {2, 4, 17, 35, 37, 57}  # a kernel answers these only after it has looked at the rights
+IN_PROGRESS = 36
+REFUSED, UNSHOWN = "refused", "unshown"  # of a refused change of kevent; of a name that may not have been there
+EVERY = frozenset(RIGHTS) | {"ALL"}  # of a descriptor that was never limited
+
+
+class Row(typing.NamedTuple):
+    """A line of the table, for one of its calls."""
+
+    names: list
+    parts: list  # each an argument, rights, and when they are needed
+    mode: str
+    kind: str
+
+
+class Need(typing.NamedTuple):
+    fd: int
+    rights: frozenset
+    kind: str
+    path: str = None  # it is sure where an earlier line found this name in the directory
+
+
+class Demand(typing.NamedTuple):
+    """What a call needs beside what its own line says."""
+
+    outcome: str  # "used" of a call that succeeded, "refused" or "failed"
+    needs: list
+    mode: str  # how sure it is that capability mode forbids the call; empty where it doesn't
+    leaves: list = []  # directories that a path left
+
+    def descriptors(self):
+        return sorted({need.fd for need in self.needs} | set(self.leaves))
+
+
+def right_of(name):
+    """The right that has a call's name."""
+    return re.sub("^__|^sctp_|_fd$", "", name).upper()
+
+
+def part_of(text, name):
+    """An argument, the rights that are needed of it, and when: FD:READ SEEK if PROT_READ"""
+    operand, _, rest = text.partition(":")
+    rights, _, when = rest.partition("if ")
+    return operand, frozenset(rights.replace("*", right_of(name)).split()), when
+
+
+@functools.cache
+def rows_of(kernel):
+    """The table for a kernel: the rows of each call."""
+    rows = collections.defaultdict(list)
+    ruled = [(arguments, rights, mode, 12, 15, RULED, calls) for arguments, rights, mode, calls in RULES]
+    for arguments, rights, mode, first, last, kind, calls in [*ruled, *NEEDS]:
+        for name in calls.split() if first <= kernel <= last else ():
+            parts = [part_of(text, name) for text in rights.split("; ") if text]
+            rows[name].append(Row(arguments.split(","), parts, mode, kind))
+    return dict(rows)
+
+
+@functools.cache
+def beyond(kernel):
+    """The calls that demand more than capcheck's rules say, or that a path can lead elsewhere."""
+    rows = rows_of(kernel).items()
+    return {name for name, them in rows if any(row.kind != RULED or row.mode == "AT_FDCWD" for row in them)}
+
+
+def fields(args):
+    """truss's arguments: what is between commas outside quotes and brackets."""
+    found, begin, depth, quoted, skipped = [], 0, 0, False, False
+    for place, byte in enumerate(args):
+        if skipped or quoted and byte not in '\\"':
+            skipped = False
+        elif byte == "\\":
+            skipped = quoted
+        elif byte == '"':
+            quoted = not quoted
+        elif byte in "{[":
+            depth += 1
+        elif byte in "}]":
+            depth -= 1
+        elif byte == "," and not depth:
+            found.append(args[begin:place])
+            begin = place + 1
+    return found + [args[begin:]]
+
+
+def numbers(text):
+    """The descriptors in a set: { 3 5 }"""
+    inside = re.fullmatch(r"\{((?: [0-9]{1,7})*) \}", text)
+    if text not in NULL and not inside:
+        raise Strange("descriptors in an unknown form")
+    return [descriptor(word) for word in inside[1].split()] if inside else []
+
+
+def polled(words):
+    """The descriptors of poll. A negative one is skipped."""
+    inside = re.fullmatch(r"\{((?: -?[0-9]{1,10}/[^ ]+)*) \}", words[0])
+    listed = inside[1].split() if inside else []
+    if len(listed) != integer(words[1]):
+        raise Strange("descriptors in an unknown form")
+    return {"FD": [descriptor(word.split("/")[0]) for word in listed if word[0] != "-"]}
+
+
+def selected(words):
+    return {"FD": sorted({fd for word in words[1:4] for fd in numbers(word)})}
+
+
+def events(text, most):
+    """The changes or events of kevent, each with ident, filter, flags and data."""
+    inside = re.fullmatch(r"\{(.*) \}", text)
+    found = CHANGE.findall(inside[1]) if inside else []
+    if len(found) != most or inside and not CHANGE.sub("", inside[1]) == "":
+        raise Strange("events in an unknown form")
+    return [(ident, kind, names.split("|"), data) for ident, kind, names, _, data, _ in found]
+
+
+def changed(words, answer):
+    """The queue, the counts and the descriptors of a kevent's changes. A refused change may be told as an event."""
+    change, most = integer(words[2]), integer(words[4])
+    told = events(words[3], answer) if change > 0 and most > 0 and answer else []
+    wrong = {(ident, kind): integer(data) for ident, kind, names, data in told if "EV_ERROR" in names}
+    changes = [each[:2] for each in events(words[1], change) if each[1] in WATCHED] if change > 0 else []
+    right, refused = (sorted({descriptor(each[0]) for each in changes if wrong.get(each, 0) == errno})
+                      for errno in (0, NOT_CAPABLE))
+    return {"KQ": words[0], "N": str(change), "M": str(most), "FD": right, "REFUSED": refused}
+
+
+ACCESSES = {"O_PATH": "", "O_SEARCH": "", "O_EXEC": "executes", "O_RDWR": "reads writes", "O_WRONLY": "writes"}
+
+
+def access(given):
+    """Which access to a file openat asked for."""
+    names = given["FLAGS"].split("|")
+    return next((words for name, words in ACCESSES.items() if name in names), "reads")
+
+
+def overwrites(given):
+    return "writes" in access(given) and not {"O_APPEND", "O_TRUNC"} & set(given["FLAGS"].split("|"))
+
+
+WHEN = {
+    "": lambda given: True, "there": lambda given: True, "DEST": lambda given: "DEST" in given,
+    "writable": lambda given: "PROT_WRITE" in given["PROT"].split("|") and "MAP_SHARED" in given["FLAGS"].split("|"),
+    "reads": lambda given: "reads" in access(given), "writes": lambda given: "writes" in access(given),
+    "executes": lambda given: "executes" in access(given), "overwrites": overwrites,
+    "given": lambda given: given["FD"] not in ("FD_NONE", "-200", "0xffffff38"),
+}
+for word in ("N", "M", "INOFF", "OUTOFF", "TO"):
+    WHEN[word] = lambda given, word=word: given[word] not in NULL
+
+
+def is_needed(when, given):
+    if when in WHEN:
+        return WHEN[when](given)
+    return bool(set(when.split()) & set(f"{given.get('PROT', '')}|{given['FLAGS']}".split("|")))
+
+
+def is_relative(name):
+    return name[:1] == '"' and name[1:2] not in ('"', "/")
+
+
+def leaves(name):
+    """Whether a relative path goes above the directory where it begins."""
+    depth = 0 if is_relative(name) else len(name)
+    for part in name.strip('"').split("/"):
+        depth += 0 if part in ("", ".") else -1 if part == ".." else 1
+        if depth < 0:
+            return True
+    return False
+
+
+def places(given):
+    """The directories of a call, each None or a descriptor, with their paths."""
+    pairs = [(directory(given["DIR"]), given.get("PATH"))] if "DIR" in given else []
+    return pairs + [(directory(given["TO"]), given["NAME"])] if "NAME" in given and "TO" in given else pairs
+
+
+def operand_of(operand, given):
+    """The descriptors that an argument names, and the path below it."""
+    value = given[operand]
+    if isinstance(value, list):
+        return value, None
+    if operand in ("DIR", "TO"):
+        at, name = directory(value), given.get("PATH" if operand == "DIR" else "NAME")
+        return ([] if at is None or name and not is_relative(name) else [at]), name
+    return [descriptor(value)], None
+
+
+def needs_of(row, given):
+    """The needs of a call by one row of the table."""
+    found = []
+    for operand, rights, when in row.parts:
+        if is_needed(when, given):
+            them, name = operand_of(operand, given)
+            kind = MIDDLE if row.kind == SURE and operand == "FD" and given.get("M", "0") not in NULL else row.kind
+            found += [Need(fd, rights, kind, name if when == "there" else None) for fd in them]
+    return found
+
+
+# Where capability mode forbids a call
+
+SOCKETS = {"SOCK_STREAM", "SOCK_DGRAM", "SOCK_SEQPACKET"}
+OF_SOCKETS = {f"SIOC{word}" for word in "ATMARK SPGRP GPGRP SHIWAT GHIWAT SLOWAT GLOWAT".split()}  # no configuration
+
+
+def is_global(given, _):
+    return any(at is None and name != '""' or name and name[:2] == '"/' for at, name in places(given))
+
+
+def is_other_socket(given, _):
+    kind, domain = flags(given["TYPE"]).split("|"), given["DOMAIN"][3:]
+    return domain not in ("LOCAL", "UNIX") and not (domain in ("INET", "INET6") and SOCKETS & set(kind))
+
+
+def is_of_others(given, pid):
+    """cpuset_getaffinity and the like: of another process, as far as the arguments show."""
+    is_thread, is_process = given["WHICH"] in ("CPU_WHICH_TID", "0x1"), given["WHICH"] in ("CPU_WHICH_PID", "0x2")
+    if given["LEVEL"] not in ("CPU_LEVEL_WHICH", "0x3") or not (is_thread or is_process):
+        return True
+    is_other = integer(given["ID"]) not in (-1, pid)
+    if is_other and is_thread:
+        raise Strange("a thread that may be of this process")
+    return is_other
+
+
+def is_named(given, _):
+    if given["SHM"][:1] != '"' and given["SHM"] not in ("SHM_ANON", "0x1"):
+        raise Strange("a name in an unknown form")
+    return given["SHM"][0] == '"'
+
+
+OF_PROCESSES = set("kill cpuset_getaffinity cpuset_setaffinity cpuset_getdomain cpuset_setdomain".split())
+MODES = {
+    "": lambda given, _: False,
+    "forbidden": lambda given, _: True,
+    "AT_FDCWD": is_global,
+    "with a destination": lambda given, _: "DEST" in given,
+    "with a name": is_named,
+    "another process": lambda given, pid: integer(given["PID"]) != pid,
+    "another's processors": is_of_others,
+    "other sockets": is_other_socket,
+    "network configuration": lambda given, _: given["COMMAND"][:4] == "SIOC" and given["COMMAND"] not in OF_SOCKETS,
+    "as a daemon": lambda given, _: bool({"PD_DAEMON", "OTHER_1", "OTHER_3"} & set(flags(given["FLAGS"]).split("|"))),
+}
+READERS = {"POLLED": lambda words, _: polled(words), "SELECTED": lambda words, _: selected(words), "CHANGED": changed}
+UNSPELLED = {"SHM", "DOMAIN", "COMMAND", "FDP"}  # arguments that the call's form in a trace lacks
+
+
+def given_to(row, args, words, answer):
+    """The arguments of a call by the names of a row. `words` are those of its form, where it has one."""
+    if words is None or UNSPELLED & set(row.names):
+        words = fields(args)
+    if row.names[0] in READERS:
+        return READERS[row.names[0]](words, answer)
+    return {name: word.strip() for name, word in zip(row.names, words)}
+
+
+@functools.lru_cache(maxsize=4096)
+def demand_of(kernel, name, args, words, outcome, ruled, pid=0, answer=0):
+    """What a call demands, with what capcheck's rules say or without. Few depend on the process or the answer."""
+    needs, mode, left = [], "", []
+    for row in rows_of(kernel).get(name, ()):
+        try:
+            given = given_to(row, args, words, answer)
+            if row.mode == "AT_FDCWD":
+                left += [at for at, name in places(given) if at is not None and name and leaves(name)]
+            if row.kind != RULED or ruled:
+                needs += needs_of(row, given)
+                needs += [Need(fd, frozenset(["EVENT"]), REFUSED) for fd in given.get("REFUSED", ())]
+                if MODES[row.mode](given, pid):
+                    mode = MIDDLE if row.kind == MIDDLE and mode != SURE else SURE
+        except (KeyError, IndexError) as why:
+            raise Strange("arguments in an unknown form") from why
+    return Demand(outcome, needs, SURE if left else mode, left)
+
+
+@functools.lru_cache(maxsize=4096)
+def ruled_needs(kernel, name, words):
+    """What the line of a call needs by capcheck's rules."""
+    rows = [row for row in rows_of(kernel).get(name, ()) if row.kind == RULED]
+    return [need for row in rows for need in needs_of(row, given_to(row, "", words, 0))]
+
+
+# What the trace shows where a call demands something
+
+
+class Made:
+    """A line that made a descriptor, and the one that made what it comes from."""
+
+    __slots__ = ("at", "pid", "fd", "parent", "accepted", "received", "file", "is_foreign")
+
+    def __init__(self, at, pid, fd, parent=None, accepted=None, received=None, same_file=False):
+        self.at, self.pid, self.fd, self.parent, self.is_foreign = at, pid, fd, parent, False
+        self.accepted = accepted or parent and parent.accepted  # the copy that accept made
+        self.received = received or parent and parent.received  # the descriptor that was sent
+        self.file = parent.file if parent and same_file else self
+
+
+class Cell(typing.NamedTuple):
+    """What is known of a descriptor: its rights, whether an exec closes it (None: unsure), the line that changed it
+    last, and where it comes from. Without rights it may be closed, or open with any."""
+
+    rights: frozenset = None
+    closes: bool = None
+    touched: int = -1
+    made: Made = None
+
+    def lacks(self, rights):
+        """What is missing of these rights for sure."""
+        rights = frozenset().union(*(SEVERAL.get(name, name).split() for name in rights))
+        return frozenset() if self.rights is None else rights - self.rights
+
+
+GONE = Cell(frozenset())
+
+
+class Known:
+    """What is known of a process."""
+
+    def __init__(self, at, others=Cell(), inside=False):
+        self.at, self.cells, self.others, self.end, self.inside = at, {}, others, LAST_DESCRIPTOR + 1, inside
+
+    def cell(self, fd):
+        return self.cells.get(fd) or (GONE if fd >= self.end else self.others)
+
+    def copy(self, at):
+        other = Known(at, self.others, self.inside)
+        other.cells, other.end = dict(self.cells), self.end
+        return other
+
+    def exec(self, at):
+        self.at = at
+        for fd, cell in self.cells.items():
+            if cell is not GONE and cell.rights is not None:
+                self.cells[fd] = GONE if cell.closes else cell if cell.closes is False else cell._replace(rights=None)
+
+    def close_from(self, least):
+        self.cells = {fd: cell for fd, cell in self.cells.items() if fd < least}
+        self.end = min(self.end, least)
+
+
+class Copy:
+    """The line after accept: the new descriptor has the listener's rights."""
+
+    def __init__(self, text, listener, rights):
+        self.text, self.listener, self.rights, self.is_dropped = text, listener, rights, False
+
+
+class Sent:
+    """A descriptor that was sent, and what the lines of who received it need of it."""
+
+    def __init__(self, at, fd, cell, since):
+        self.at, self.fd, self.cell, self.since, self.rights = at, fd, cell, since, frozenset()
+
+
+class Follower:
+    """Follows a trace's lines as capcheck does in profile 2, which finds most, and puts markers of needs after them."""
+
+    def __init__(self, kernel, notes):
+        self.kernel, self.notes = kernel, notes
+        self.known = {}  # processes
+        self.uses, self.refused = {}, {}  # by line and descriptor: the rights, with the line that changed it last
+        self.globals, self.copies, self.foreign = set(), {}, {}  # by line
+        self.messages, self.names = {}, {}  # who sent; names that were found, with their directories
+
+    def trace(self, lines):
+        for at, line in enumerate(lines):
+            self.line(at, line)
+        self.deliver(lines)
+        self.drop_earlier(lines)
+        for at, line in enumerate(lines):
+            if line.text:
+                yield line.text
+            yield from self.after(at, line.pid)
+
+    def after(self, at, pid):
+        """The lines that are written after this one."""
+        for word, marked in (("uses", self.uses), ("refused", self.refused)):
+            for fd, (rights, _) in sorted(marked.get(at, {}).items()):
+                yield f"{pid} @{word}({fd},{spelled_rights(rights)})"
+        if at in self.globals:
+            yield f"{pid} @global()"
+        if at in self.copies and not self.copies[at].is_dropped:
+            yield self.copies[at].text
+        for fd in sorted(self.foreign.get(at, ())):
+            yield f"{pid} @foreign({fd})"
+
+    def line(self, at, line):
+        process = self.known.get(line.pid)
+        if not process:
+            process = self.known[line.pid] = Known(at)
+        if line.answer is not None or line.demand and line.demand.outcome != "refused":
+            self.look_back(process, line)
+        if line.demand:
+            self.demand(at, process, line, line.demand)
+        self.follow(at, process, line)
+
+    # ---- Needs
+
+    def look_back(self, process, line):
+        """What a call that succeeded shows of an accepted descriptor, and what any needs of one that came in a message."""
+        is_done = line.answer is not None
+        watched = [fd for fd in line.uses if (made := process.cell(fd).made) and (made.accepted or made.received)]
+        for fd in watched if is_done else ():
+            self.came(process.cell(fd), self.ruled(line, fd), line)
+        for need in line.demand.needs if line.demand else ():
+            made = process.cell(need.fd).made
+            shows = made and made.accepted and is_done and need.kind in (SURE, RULED)
+            if made and need.kind != REFUSED and (made.received or shows):
+                self.came(process.cell(need.fd), need.rights, line)
+
+    def ruled(self, line, fd):
+        """What a line needs of a descriptor by capcheck's rules."""
+        if line.name == "cap_rights_limit":
+            return rights_in(line.words[1])
+        needs = ruled_needs(self.kernel, line.name, tuple(line.words))
+        return frozenset().union(*(need.rights for need in needs if need.fd == fd))
+
+    def came(self, cell, rights, line):
+        copy, sent = cell.made.accepted, cell.made.received
+        if copy and not copy.is_dropped and copy.rights is not None and not rights <= copy.rights:
+            copy.is_dropped = True
+            lacks = f"the listener {copy.listener} lacks {spelled_rights(rights - copy.rights)}"
+            self.against(line, f"succeeded, though {lacks}: nothing is known of the accepted descriptor")
+        while sent and not rights <= sent.rights:
+            sent.rights |= rights
+            sent = sent.cell.made and sent.cell.made.received
+
+    def demand(self, at, process, line, demand):
+        for need in demand.needs:
+            self.need(at, process, line, need, demand.outcome)
+        if demand.mode == MIDDLE and process.inside:
+            self.against(line, f"succeeded in capability mode{self.other_kernel(line.name)}")
+        elif demand.mode:
+            self.globals.add(at)
+        for fd in demand.leaves:
+            self.left(process.cell(fd), line)
+
+    def other_kernel(self, name):
+        """A kernel whose table has fewer rows of a call."""
+        rows = len(rows_of(self.kernel)[name])
+        fewer = [kernel for kernel in KERNELS if len(rows_of(kernel).get(name, ())) < rows]
+        return f": --kernel {fewer[-1]}?" if fewer else ", which a kernel refuses as far as is known"
+
+    def need(self, at, process, line, need, outcome):
+        """One need: it is written where it is sure, and else where it can't be a finding."""
+        cell, kind = process.cell(need.fd), need.kind
+        if need.path and self.file_of(line.pid, need.fd) not in self.names.get(need.path, ()):
+            kind = UNSHOWN
+        lacks, since = cell.lacks(need.rights), (line.pid, process.at, cell.touched)
+        is_sure = outcome == "used" and kind in (SURE, RULED)
+        is_refused = outcome == "refused" or kind == REFUSED
+        if is_sure or cell is not GONE and not lacks and not is_refused:
+            self.mark(self.uses, at, need.fd, need.rights, since)
+        elif lacks and cell is not GONE and (is_refused or outcome == "used" and kind == SILENT):
+            self.mark(self.refused, at, need.fd, lacks, since)
+        elif lacks and cell is not GONE and outcome == "used" and kind == MIDDLE:
+            self.against(line, f"succeeded without {spelled_rights(lacks)} of descriptor {need.fd}")
+
+    def against(self, line, text):
+        """A call succeeded that the table says a kernel refuses."""
+        self.notes.against(line.number, f"{line.name} {text}")
+
+    def mark(self, marked, at, fd, rights, since):
+        others, _ = marked.setdefault(at, {}).get(fd, (frozenset(), since))
+        marked[at][fd] = others | rights, since
+
+    def left(self, cell, line):
+        """A path led out of a directory, which a kernel allows only where that was never limited."""
+        if cell.rights is not None and cell is not GONE and "ALL" not in cell.rights:
+            self.against(line, "succeeded by a path that leaves a limited directory")
+            return
+        made = cell.made
+        while made and not made.is_foreign:
+            made.is_foreign = True
+            self.foreign.setdefault(made.at, set()).add(made.fd)
+            made = made.parent
+
+    def deliver(self, lines):
+        """The needs of descriptors that were sent in messages."""
+        for sent in itertools.chain.from_iterable(self.messages.values()):
+            lacks = sent.cell.lacks(sent.rights)
+            if sent.rights and not lacks and sent.cell is not GONE:
+                self.mark(self.uses, sent.at, sent.fd, sent.rights, sent.since)
+            elif lacks:
+                what = f"descriptor {sent.fd} without {spelled_rights(lacks)}, which who received it used"
+                self.against(lines[sent.at], f"sent {what}: perhaps another message")
+
+    def drop_earlier(self, lines):
+        """Of the same uses of a descriptor that nothing changed in between, the last one is written."""
+        later = set()
+        for at in range(len(lines) - 1, -1, -1):
+            for fd, use in list(self.uses.get(at, {}).items()):
+                if (fd, use) in later:
+                    del self.uses[at][fd]
+                later.add((fd, use))
+
+    # ---- What lines do
+
+    def follow(self, at, process, line):
+        """What is known after a line."""
+        pid, name, words = line.pid, line.name, line.words
+        if name == "@start":
+            process = self.known[pid] = Known(at, GONE)
+            process.cells = {int(fd): Cell(EVERY, None, at, Made(at, pid, int(fd))) for fd in words}
+        elif name == "@exit":
+            del self.known[pid]
+        elif name == "@foreign":
+            self.made_foreign(at, process, pid, int(words[0]), line.message)
+        elif name == "close" and line.errno not in (None, 9):
+            process.cells[int(words[0])] = Cell(touched=at)
+        elif line.answer is not None and line.text:
+            self.succeeded(at, process, line, words[1] if name == "fcntl" else name)
+
+    def made_foreign(self, at, process, pid, fd, message):
+        sent = self.messages[message[0]][message[1]] if message else None
+        made = Made(at, pid, fd, sent and sent.cell.made, received=sent, same_file=True)
+        made.is_foreign = not made.parent
+        process.cells[fd] = Cell(touched=at, made=made)
+
+    def succeeded(self, at, process, line, what):
+        """A call that succeeded; an fcntl by its command."""
+        pid, words, fd = line.pid, line.words, int(line.words[0]) if line.uses and line.words[0].isdigit() else None
+        if what == "close":
+            process.cells[fd] = GONE
+        elif what == "closefrom":
+            process.close_from(int(words[0]))
+        elif what in EXECS:
+            process.exec(at)
+        elif what == "cap_enter":
+            process.inside = True
+        elif what in LIMITS:
+            asked = rights_in(words[1]) if what == "cap_rights_limit" else None
+            process.cells[fd] = limited(process.cell(fd), at, asked)
+        elif what == "F_SETFD":
+            process.cells[fd] = flagged(process.cell(fd), at, words[2].split("|"))
+        elif what in FORKS and what in FORMS and line.answer:
+            self.known[line.answer] = process.copy(at)
+        elif what == "sendmsg" and line.message:
+            self.messages[line.message] = [self.sent(at, process, pid, each) for each in line.message.fds]
+        elif what in COPYING or what in MADE or what in PAIRS:
+            self.opened(at, process, line, what, fd)
+        self.name(pid, line)
+
+    def sent(self, at, process, pid, fd):
+        cell = process.cell(fd)
+        return Sent(at, fd, cell, (pid, process.at, cell.touched))
+
+    def opened(self, at, process, line, what, fd):
+        pid, words = line.pid, line.words
+        closes = "CLOEXEC" in what + "".join(words[-1:])
+        if what in PAIRS:
+            for each in map(int, line.text.rsplit(" ", 1)[1].split(",")):
+                process.cells[each] = Cell(EVERY, closes, at, Made(at, pid, each))
+            return
+        made = line.answer
+        if what in ("accept", "accept4"):
+            self.accepted(at, process, line, process.cell(fd), closes)
+        elif what in SECOND and made == fd:
+            old = process.cell(fd)
+            process.cells[fd] = old._replace(closes=None if closes else old.closes, touched=at)
+        elif what in COPYING or what == "openat" and fd is not None and is_relative(words[1]):
+            old = process.cell(fd)
+            came = Made(at, pid, made, old.made, same_file=what in COPYING)
+            process.cells[made] = Cell(None if old is GONE else old.rights, closes, at, came)
+        else:
+            held = what in ("open", "socket") or what == "openat" and words[0] == "AT_FDCWD" and words[1] != '""'
+            process.cells[made] = Cell(EVERY if held else None, closes, at, Made(at, pid, made))
+
+    def accepted(self, at, process, line, old, closes):
+        """The new descriptor of an accept has the listener's rights, so it is written as a copy of it."""
+        listener, new = line.words[0], line.answer
+        process.cells[new] = Cell(None, closes, at, Made(at, line.pid, new))
+        if old is not GONE:
+            command = "F_DUP2FD_CLOEXEC" if closes else "F_DUP2FD"
+            copy = Copy(f"{line.pid} fcntl({listener},{command},{new}) RET {new}", listener, old.rights)
+            process.cells[new] = Cell(old.rights, closes, at, Made(at, line.pid, new, old.made, copy))
+            self.copies[at] = copy
+
+    def file_of(self, pid, fd):
+        """What stands for the file of a descriptor."""
+        process = self.known[pid]
+        cell = process.cell(fd)
+        return cell.made.file if cell.made else (pid, fd, process.at, cell.touched)
+
+    def name(self, pid, line):
+        """Names that a call found, made or removed."""
+        if line.name in ("unlink", "rmdir", "rename") or line.name == "funlinkat":
+            self.names.clear()
+        elif line.name in AT_CALLS:
+            row = rows_of(self.kernel)[line.name][0]
+            pairs = places(given_to(row, "", line.words, 0))
+            for place, (fd, name) in enumerate(pairs):
+                if line.name == "unlinkat" or line.name == "renameat" and place == 0:
+                    self.names.pop(name, None)
+                elif fd is not None:
+                    self.names.setdefault(name, set()).add(self.file_of(pid, fd))
+
+
+def limited(cell, at, asked):
+    """A cell after a limit: one of rights, or another one."""
+    if asked is None:
+        rights = cell.rights and cell.rights - {"ALL"}
+        return Cell(touched=at) if cell is GONE else cell._replace(rights=rights, touched=at)
+    if cell is GONE or cell.rights is None:
+        return Cell(asked, None, at, cell.made)
+    return cell._replace(rights=cell.rights & asked, touched=at)
+
+
+def flagged(cell, at, words):
+    """A cell after F_SETFD."""
+    if cell is GONE or cell.rights is None:
+        return cell
+    rights = cell.rights if set(words) <= {"FD_CLOEXEC", "0"} else cell.rights - {"ALL"}
+    return cell._replace(rights=rights, closes="FD_CLOEXEC" in words, touched=at)
+
+
+def rights_in(text):
+    return frozenset(word[4:] for word in text.split("|") if word != "NONE")
 
 
 # A recording as a whole
@@ -1011,20 +1873,21 @@ def in_order(lines, default):
                 yield here
 
 
-def convert(recording, notes, start=None, default=None, strict=False):
+def convert(recording, notes, start=None, default=None, strict=False, kernel=KERNEL, failed=False):
     """The converter that has read a recording (bytes). `notes` takes what couldn't be read, and what is left out."""
     lines = recording.decode("latin-1").split("\n")
     if not any(lines):
         raise Refused("the recording is empty")
     if default is None and all(parted(line, None)[0] is None for line in lines):
         raise Refused("no line has a process number: record with truss -f, or give --pid")
-    converter = Converter(start)
+    converter = Converter(notes, start, kernel, failed)
     read = 0
     for count, place in enumerate(in_order(lines, default)):
         notes.progress(count, len(lines))
         if not lines[place]:
             continue
         pid, thread, rest = parted(lines[place], default)
+        converter.number = place + 1
         try:
             if pid is None:
                 converter.forget_all()
@@ -1072,6 +1935,12 @@ class Notes:
         if self.kinds[kind] <= MOST_NOTES:
             self.say(f"{beginning}, {why}: {quoted(line)}")
 
+    def against(self, number, text):
+        """A call succeeded that the table of needs says a kernel refuses."""
+        self.kinds["that the kernel's table is against"] += 1
+        if self.kinds["that the kernel's table is against"] <= MOST_NOTES:
+            self.say(f"line {number}: {text}")
+
     def more(self):
         for kind, number in self.kinds.items():
             if number > MOST_NOTES:
@@ -1092,9 +1961,23 @@ def quoted(line):
 def summary(calls, unjudged):
     """How many calls were written, and which of the recording's calls `findings 0` says nothing about."""
     text = f"{calls:,} call{'' if calls == 1 else 's'} written"
-    if unjudged:
-        listed = sorted(unjudged.items(), key=lambda each: (-each[1], each[0]))
-        text += "; not judged: " + ", ".join(f"{name} {number:,}" for name, number in listed)
+    return f"{text}; not judged: {listed(unjudged)}" if unjudged else text
+
+
+def listed(unjudged, most=None):
+    """The names and numbers of calls, the most frequent first."""
+    order = sorted(unjudged.items(), key=lambda each: (-each[1], each[0]))
+    text = ", ".join(f"{name} {number:,}" for name, number in order[:most])
+    more = len(order) - len(order[:most])
+    return f"{text} and {more} other{'' if more == 1 else 's'}".removeprefix(" and ") if more else text
+
+
+def unjudged_comment(text, unjudged, first):
+    """A trace's first line, which says how many calls nothing is known of. It has to fit a line."""
+    for most in range(MOST_NAMES, -1, -1):
+        comment = f"{text}; not judged: {listed(unjudged, most)}, first at line {first} of the recording"
+        if unjudged and len(comment) <= LONGEST:
+            return comment
     return text
 
 
@@ -1123,6 +2006,11 @@ def main():
     words.add_argument("--start", type=descriptors, metavar="FDS",
                        help="the first process has just been executed with these descriptors and no others, as 0,1,2")
     words.add_argument("--pid", type=process_number, help="the process of lines without a number (truss without -f)")
+    kernels = words.add_mutually_exclusive_group()
+    kernels.add_argument("--kernel", type=int, choices=KERNELS, default=KERNEL,
+                         help=f"write what this release of FreeBSD demands; {KERNEL} where none is named")
+    kernels.add_argument("--plain", action="store_true", help="write nothing of what a kernel demands beside the rules")
+    words.add_argument("--failed", action="store_true", help="write also what calls needed that failed later")
     words.add_argument("-o", "--output", metavar="FILE", help="where the trace goes; standard output where none is named")
     words.add_argument("--strict", action="store_true", help="end at the first line that can't be read")
     words.add_argument("--verbose", action="store_true", help="say also which calls are left out, and why")
@@ -1148,11 +2036,13 @@ def run(plan):
     output = open(plan.output, "wb") if plan.output else sys.stdout.buffer
     notes = Notes(plan.verbose)
     try:
-        converter = convert(recording, notes, plan.start, plan.pid, plan.strict)
-        status, lines, last = converter.status, converter.trace(), summary(converter.calls, converter.unjudged)
+        kernel = None if plan.plain else plan.kernel
+        converter = convert(recording, notes, plan.start, plan.pid, plan.strict, kernel, plan.failed)
+        status, heading, lines = converter.status, [converter.heading()], converter.trace()
+        last = summary(converter.calls, converter.unjudged)
     except Refused as why:
-        status, lines, last = 2, iter([str(why)]), str(why)  # capcheck refuses such a line
-    for line in itertools.islice(lines, MOST_LINES):
+        status, heading, lines, last = 2, [], iter([str(why)]), str(why)  # capcheck refuses such a line
+    for line in itertools.chain(heading, itertools.islice(lines, MOST_LINES)):
         output.write(line.encode("latin-1") + b"\n")
     output.flush()
     if plan.output:

@@ -42,7 +42,7 @@ FORMS = {
     "(FD,FD), which answers the second FD": "dup2",
     "(FD,COMMAND), NAME(FD,F_SETFD,FLAGS), or NAME(FD,F_DUP2FD,FD), which answers the second FD": "fcntl",
     "(FD,PROTECTION,FLAGS)": "mmap",
-    "(FD,RIGHTS)": "cap_rights_limit",
+    "(FD,RIGHTS)": "cap_rights_limit @uses @refused",
     '("PATH",FLAGS)': "open",
     '("PATH")': """execve access chdir chflags chmod chown lchown lstat mkdir mkfifo mknod readlink rmdir stat statfs truncate
         unlink""",
@@ -53,7 +53,7 @@ FORMS = {
     '(DIR,"PATH",DIR,"PATH")': "renameat",
     '(DIR,"PATH",DIR,"PATH",FLAGS)': "linkat",
     "(FLAGS)": "socket socketpair pipe2",
-    "()": "pipe kqueue shm_open mq_open fhopen fork vfork pdfork cap_enter @exit",
+    "()": "pipe kqueue shm_open mq_open fhopen fork vfork pdfork cap_enter @exit @global",
     "(FD,FD,..) with rising descriptors": "@start",
 }
 FORM_OF = {name: form for form, names in FORMS.items() for name in names.split()}
@@ -162,16 +162,19 @@ def many(number, what):
     return f"{number:,} {what}" if number == 1 else f"{number:,} {what}s"
 
 
-def in_words(finding):
-    """What a finding says, with the word for it that reports have."""
+def in_words(name, finding):
+    """What the finding of a call says, with the word for it that reports have. A marker speaks of a call."""
     kind, *parts = finding.split(" ")
-    return f"{FINDINGS[kind].format(*parts)} ({kind})" if kind in FINDINGS else finding
+    if kind not in FINDINGS:
+        return finding
+    words = FINDINGS[kind].format(*parts)
+    return f"{'a call' + words.removeprefix('it') if name.startswith('@') else words} ({kind})"
 
 
 def placed(position, found):
     """A finding in words, with its line, process and call."""
     pid, name, finding = found.split(" ", 2)
-    return f"line {position}, {pid} {name}: {in_words(finding)}"
+    return f"line {position}, {pid} {name}: {in_words(name, finding)}"
 
 
 class Capcheck:
@@ -384,12 +387,12 @@ def print_lines(session, typed):
     first, last = span(session, typed or b"1 %d" % len(session.lines))
     found = {}
     for position, finding in session.capcheck.report(first, last):
-        found.setdefault(position, []).append(finding.split(" ", 2)[2])
+        found.setdefault(position, []).append(finding.split(" ", 2)[1:])
     wide = len(str(last))
     for position, line in session.texts(first, last):
         put(f"{position:>{wide}}  {shown(line)}")
-        for finding in found.get(position, []):
-            put(f"{'':>{wide}}  ^ {in_words(finding)}")
+        for name, finding in found.get(position, []):
+            put(f"{'':>{wide}}  ^ {in_words(name, finding)}")
 
 
 @command("find TEXT", "prints the lines that have TEXT in them")
@@ -551,15 +554,29 @@ def reason(refused, typed, session):
         name = re.search(rb" (@?[a-z_][a-z0-9_]*)\(", typed)
         form = FORM_OF.get(name[1].decode()) if name else None
         words += f": {name[1].decode()}{form.replace('NAME', name[1].decode())}" if form else ""
+    elif code == "E2":
+        words = wrong_marker(typed) or words
     elif code == "E5":
         unknown = wrong_rights(typed)
         words = " and ".join(unknown) if unknown else words
     return f"not done: {words} ({code})"
 
 
+def wrong_marker(typed):
+    """What is wrong with the shape of a marker that was typed after its position and its process."""
+    found = re.match(rb"[a-z]+ +[0-9]+ +[0-9]+ (@[^( ]*)", typed)
+    if not found:
+        return None
+    name = shown(found[1])
+    if name in FORM_OF:
+        return f"a marker is written PID {name}{FORM_OF[name]}, and nothing comes after it"
+    near = difflib.get_close_matches(name, [each for each in FORM_OF if each.startswith("@")], 1)
+    return f"there is no marker {name}" + (f" (is it {near[0]}?)" if near else "")
+
+
 def wrong_rights(typed):
     """What is wrong with each right that a line names and that isn't one."""
-    named = re.search(rb"cap_rights_limit\([^,]*,([^)]*)", typed)
+    named = re.search(rb" (?:cap_rights_limit|@uses|@refused)\([^,]*,([^)]*)", typed)
     wrong = []
     for name in named[1].split(b"|") if named else []:
         name = shown(name)
@@ -606,7 +623,7 @@ def candidates(before, session):
         line = session.text(int(words[1])).decode("latin-1")
         return [line] if line.isascii() and line.isprintable() else []
     line = " ".join(words[2:])
-    if re.search(r"cap_rights_limit\([^,)]*,[^)]*$", line):
+    if re.search(r" (?:cap_rights_limit|@uses|@refused)\([^,)]*,[^)]*$", line):
         return RIGHTS
     return [name + "(" for name in FORM_OF] if len(words) == 4 and "(" not in line else []
 

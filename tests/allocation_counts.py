@@ -17,7 +17,13 @@ CALL = "100 foo() RET 0"
 LINES = 16_384
 MIDDLE = LINES // 2
 # Each edit in the middle, and the most allocations that it may take.
-EDITS = {f"insert {MIDDLE} {CALL}": 64, f"delete {MIDDLE}": 44, f"replace {MIDDLE} {CALL}": 46}
+EDITS = {
+    f"insert {MIDDLE} {CALL}": 64,
+    f"delete {MIDDLE}": 44,
+    f"replace {MIDDLE} {CALL}": 46,
+    f"insert {MIDDLE} 100 @uses(3,CAP_READ)": 126,
+    f"replace {MIDDLE} 100 @global()": 98,
+}
 SOCKETS = 4096
 REPORT = 8
 
@@ -45,6 +51,7 @@ def main():
         sys.exit(2)
     with tempfile.TemporaryDirectory() as folder:
         library = compiler.library("refuse", folder)
+        compiler.loads(sys.argv[1])
 
         def count(lines, commands):
             return allocations(os.path.abspath(sys.argv[1]), folder, library, lines, commands)
@@ -54,14 +61,15 @@ def main():
         edits = {edit: count(calls, [edit]) - load for edit in EDITS}
         begun = ["100 @start()"]
         opened = begun + [f"100 socket(0) RET {fd}" for fd in range(SOCKETS)]
-        reports = [count(lines, ["report"]) - count(lines, []) for lines in (begun, opened)]
+        used = opened + [f"100 @uses({fd},CAP_READ)" for fd in range(SOCKETS)]
+        reports = [count(lines, ["report"]) - count(lines, []) for lines in (begun, opened, used)]
     for edit, taken in edits.items():
         print(f"{edit}: {taken} allocations, with {LINES:,} lines")
         if taken > EDITS[edit]:
             sys.exit(f"{edit} took {taken} allocations, more than {EDITS[edit]}")
-    print(f"a report: {reports[0]} allocations, and {reports[1]} with {SOCKETS} sockets")
-    if reports[1] > reports[0] + REPORT:
-        sys.exit(f"a report took {reports[1]} allocations, more than {REPORT} beyond {reports[0]}")
+    print(f"a report: {reports[0]} allocations, {reports[1]} with {SOCKETS} sockets, and {reports[2]} where each is used")
+    if max(reports) > reports[0] + REPORT:
+        sys.exit(f"a report took {max(reports)} allocations, more than {REPORT} beyond {reports[0]}")
 
 
 main()

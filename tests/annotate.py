@@ -156,7 +156,8 @@ def check_page(name, path, options, trace, report):
     compare(name, "positions", positions(trace), [line[0] for line in lines])
     compare(name, "processes", [int(line[1].split(" ")[0]) if line[0] else 0 for line in lines], [line[2] for line in lines])
     refused = [int(line[1][-2:]) if re.search(r"\) RET -1 errno 9[34]$", line[1]) else 0 for line in lines]
-    compare(name, "errnos", [each * bool(line[0]) for each, line in zip(refused, lines)], [line[3] for line in lines])
+    refused = [93 if " @refused(" in line[1] else each * bool(line[0]) for each, line in zip(refused, lines)]
+    compare(name, "errnos", refused, [line[3] for line in lines])
     made = "".join(f"{lines[place][0]} {lines[place][2]} {said}\n" for place, all_said, _, _ in notes for said in all_said)
     compare(name, "the report of the page", report, made + page.texts["last"] + "\n")
     for place, _, why, omitted in notes:
@@ -294,6 +295,31 @@ def kinds():
         rules = file.read().split("## Findings")[1].split("## ")[0]
     compare("kinds", "all", set(re.findall(r"^\| `([a-z]+)", rules, re.M)), {each["kind"] for each in got["findings"]})
     example("kinds", path)
+
+
+def markers():
+    """Findings of markers, which speak of calls, and their descriptors; `@refused` counts as answered with 93."""
+    path = written(b"""100 @start(0,3)
+100 cap_rights_limit(3,CAP_READ) RET 0
+100 poll({ 3/POLLIN 8/POLLIN },2,0) RET 1
+100 @uses(3,CAP_READ|CAP_EVENT)
+100 @uses(8,CAP_EVENT)
+100 cap_enter() RET 0
+100 connect(0) RET 0
+100 @global()
+100 kevent(3,0x0,0,0x0,1,0x0) RET -1 errno 93
+100 @refused(3,CAP_KQUEUE_EVENT)
+100 @refused(0,CAP_EVENT)
+""")
+    wanted = ["4: 100 @uses: missing CAP_EVENT on 3, which a call needed",
+              "5: 100 @uses: closed descriptor 8, which a call needed",
+              "8: 100 @global: forbidden in capability mode, and a call succeeded"]
+    compare("markers", "gcc", "".join(f"{path}:{each}\n" for each in wanted), annotate("gcc", path))
+    data = example("markers", path)
+    compare("markers", "descriptors", [[3], [8], [3], [0]], [data["lines"][place][4:] for place in (3, 4, 9, 10)])
+    compare("markers", "errnos", [0, 0, 0, 93, 93, 93], [data["lines"][place][3] for place in (3, 4, 7, 8, 9, 10)])
+    compare("markers", "explanations", [[3, [["3", 1], ["3", 0]]], [4, [["8", 0]]], [7, [["mode", 5]]]],
+            [[place, why] for place, _, why, _ in data["notes"]])
 
 
 def nasty():
@@ -463,7 +489,7 @@ def consistent():
     compare("the page", "the height of a row", re.findall(r"--row: (\d+)px", page), re.findall(r"const ROW = (\d+);", page))
 
 
-for check in (examples, worked, kinds, nasty, refusals, bounds, options, installed, failures, manual, consistent):
+for check in (examples, worked, kinds, markers, nasty, refusals, bounds, options, installed, failures, manual, consistent):
     check()
 print(f"{count} comparisons: {'all passed' if not wrong else f'{wrong} differ'}")
 sys.exit(1 if wrong else 0)

@@ -22,18 +22,21 @@ CHECKED, FEW_CHECKED = 900_000, 9_000
 
 
 def lines(count):
-    """A trace in which nothing is found, with many descriptors and processes."""
+    """A trace in which nothing is found, with many descriptors and processes; a tenth are markers of needs."""
     yield "100 @start(0,1,2,3)"
     for child in range(101, 116):
         yield f"100 fork() RET {child}"
+    markers = ("@uses({},CAP_READ|CAP_EVENT)", "@global()", "@refused({},CAP_WRITE)")
     for at in range(count - 16):
-        yield f"{100 + at % 16} {'read' if at % 3 else 'write'}({at % 4}) RET {at % 1000}"
+        what = markers[at // 10 % 3] if at % 10 == 9 else ("read" if at % 3 else "write") + f"({{}}) RET {at % 1000}"
+        yield f"{100 + at % 16} {what.format(at % 4)}"
 
 
 def edits(count):
-    """Each in the middle, by two lines in turn. One of them changes what is known."""
+    """Each in the middle, by three lines in turn. One of them changes what is known, and one is a marker."""
+    ways = ("getpid() RET 105", "cap_rights_limit(2,CAP_READ|CAP_WRITE|CAP_EVENT) RET 0", "@uses(2,CAP_READ|CAP_EVENT)")
     for at in range(count):
-        yield f"replace {EDITED // 2} 105 " + ("cap_rights_limit(2,CAP_READ|CAP_WRITE) RET 0" if at % 2 else "getpid() RET 105")
+        yield f"replace {EDITED // 2} 105 {ways[at % 3]}"
 
 
 def ran(words, out):

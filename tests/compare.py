@@ -10,7 +10,8 @@ before some lines and after each line that made a descriptor. A script of limits
 
 The first case that the two answer differently is printed with as few lines as still show it, and the status is then 1.
 
-With `--met` no program runs, and it is printed how often the random traces met each rule of profile 2.
+With `--met` no program runs, and it is printed how often the random traces met each rule of profile 2, and each marker of needs
+with a finding, a denial or a limit.
 
 With `--laws` no program runs either: the laws of limits are tried on those of reference.py. With the limits in the trace nothing
 new is found; with a right less in any of them it is; and the line that is named as in the way of cap_enter is the first that
@@ -40,6 +41,7 @@ COMMANDS = (
 OFTEN = """READ WRITE SEEK LOOKUP MMAP MMAP_R FSTAT FEXECVE PREAD CREATE FCNTL RENAMEAT_SOURCE RENAMEAT_TARGET
 UNLINKAT""".split()
 CALLS = [name for name in list(reference.FORMS) + ["sendto", "sendmsg", "fcntl"] if name[0] != "@"]
+NEEDS = ("@uses", "@uses", "@refused", "@global", "@global")  # the markers of needs
 COMMON = "read write openat renameat linkat mmap dup2 dup close fcntl".split()
 EXECS = "execve execve fexecve closefrom closefrom".split()
 MAKERS = "open open socket socketpair pipe2 pipe".split()
@@ -64,7 +66,7 @@ OTHER = (
     'execve("/bin/x") RET -1 errno 2', "fexecve(A) RET -1 errno 93",
 )  # fmt: skip
 END = ('execve("/bin/x") RET 0',) * 4 + ("fexecve(A) RET 0", "closefrom(A) RET 0", "closefrom(B) RET 0")
-SHOW = ("write(A) RET 1", "read(A) RET -1 errno 93", "cap_rights_limit(A,ALL) RET -1 errno 93")
+SHOW = ("write(A) RET 1", "read(A) RET -1 errno 93", "cap_rights_limit(A,ALL) RET -1 errno 93", "@uses(A,R)", "@refused(A,R)")
 BETWEEN = (
     'execve("/bin/x") RET 0', "fexecve(A) RET 0", "closefrom(A) RET 0", "cap_rights_limit(A,NONE) RET 0", "cap_rights_limit(A,ALL) RET 0",
     "cap_rights_limit(A,R) RET 0", "fcntl(A,F_SETFD,W) RET 0", "dup2(A,B) RET B", "close(A) RET 0", "socket(F) RET A", "cap_enter() RET 0",
@@ -72,12 +74,14 @@ BETWEEN = (
 )  # fmt: skip
 MODES = (
     'open("a",F) RET A', 'open("a",F) RET -1 errno 94', 'openat(A,"a",F) RET -1 errno 93', 'openat(AT_FDCWD,"a",F) RET A', "read(A) RET -1 errno 94",
+    "@global()",
 )  # fmt: skip
 USES = (
     "read(A) RET 1", "write(A) RET 1", "pwrite(A) RET 1", "lseek(A) RET 0", "fstat(A) RET 0", "fsync(A) RET 0", "ioctl(A) RET 0", "ioctl(A) RET -1 errno 93",
     "mmap(A,PROT_READ,MAP_PRIVATE) RET 1", 'openat(A,"a",O_PATH) RET B', 'openat(A,"a",O_RDWR|O_CREAT) RET B', 'openat(A,"a",O_RDWR|O_CREAT) RET -1 errno 93',
     'renameat(A,"a",B,"b") RET 0', 'renameat(A,"a",B,"b") RET -1 errno 93', "pipe() RET A,B", "dup(A) RET B", "dup2(A,B) RET B", "fork() RET C", "fork() RET C",
     "cap_rights_limit(A,R) RET 0", "cap_rights_limit(A,CAP_PREAD|CAP_WRITE|CAP_FSTAT|CAP_LOOKUP) RET 0", 'open("a",F) RET A', 'open("a",F) RET -1 errno 94',
+    "@uses(A,R)", "@uses(A,CAP_EVENT)", "@uses(A,CAP_PREAD|CAP_UNLINKAT)", "@refused(A,CAP_FSTAT|CAP_EVENT)", "@global()",
 )  # fmt: skip
 SPOILED = "closefrom() RET 0,closefrom(x) RET 0,closefrom(1048576) RET 0,closefrom(3) RET 1,closefrom(-1) RET 0".split(",")
 NUMBERS = ["", "0", "00", "01", "007", "-1", "+1", "1x", "x", "0x1", "1_0", "\xb2", "9" * 19, "1" + "0" * 19, "18446744073709551617"]
@@ -96,15 +100,16 @@ class Maker:
         self.random = random.Random(seed)
         self.choice = self.random.choice
         self.positions = random.Random(seed)  # of their own, so that traces, starts and scripts don't change with them
-        self.pids, self.places, self.execs = PIDS, PLACES, False
+        self.pids, self.places, self.execs, self.needs = PIDS, PLACES, False, 0.0
         self.made = Counter()  # how many long traces of each kind
 
     def elsewhere(self):
         """Other processes and descriptors for the next trace: many, or so few that lines meet each other's; with many execs, or
-        with few."""
+        with few; and with so many markers of needs."""
         self.pids = self.choice((PIDS, PIDS[:2], PIDS[:1]))
         self.places = self.choice((PLACES, self.random.sample(PLACES, 3), self.random.sample(PLACES, 2)))
         self.execs = self.chance(0.7)
+        self.needs = self.choice((0.0, 0.1, 0.3))
 
     def chance(self, share):
         return self.random.random() < share
@@ -178,6 +183,9 @@ class Maker:
 
     def line(self):
         pid = self.choice(self.pids)
+        if self.chance(self.needs):
+            name = self.choice(NEEDS)
+            return f"{pid} {name}({','.join(self.arguments(name))})"
         kind = self.random.random()
         if self.execs and kind < 0.10 and self.chance(0.7):
             kind = 0.5
@@ -623,7 +631,9 @@ LIMITS = {
     "NONE": r"cap_rights_limit\(\d+,NONE\)",
     "rights": r"cap_rights_limit\(\d+,CAP_",
     "cap_enter": r"cap_enter\(\)",
-    "a line in the way of cap_enter": "# no cap_enter",
+    "a call in the way of cap_enter": r"# no cap_enter: line \d+, \w",
+    "a marker in the way of cap_enter": r"# no cap_enter: line \d+, @",
+    "where a process begins": "is where process",
     "capability mode already": "capability mode already",
     "a descriptor that isn't known": "isn't known",
 }
@@ -635,18 +645,28 @@ def met_by(run):
     if status == 2:
         return [" ".join(answer.split(" ")[: 3 if "start" in answer else 2])] if run.command == "check" else []
     if run.command == "explain":
-        return [f"explained: {min(len(answer.splitlines()), 20)} lines"]
-    if run.command == "denials":
-        return [f"denied: {line.split(' ')[3]}" for line in answer.splitlines()[:-1]]
+        lines = answer.splitlines()
+        return [f"explained: {min(len(lines), 20)} lines"] + [f"explained: {name}" for name in re.findall(r"^\d+ \d+ (@\w+)", answer)]
     if run.command == "limits":
-        where = "after makers" if run.position is None else "before a line"
-        return [f"limits {where}: {what}" for what, pattern in LIMITS.items() for _ in re.findall(pattern, answer)]
+        return met_by_limits(run, answer)
+    judged = [line.split(" ")[2:4] for line in answer.splitlines()[:-1]] if run.command in ("check", "denials") else []
+    met = [f"{name} {word}" for name, word in judged if name[0] == "@"]
+    if run.command == "denials":
+        return met + [f"denied: {word}" for _, word in judged]
     if run.command == "check" and run.profile == 2:
         processes = Counting(2, reference.load_start(run.start or "")[0])
         for line in reference.load(run.trace)[0]:
             processes.follow(*reference.read(line))
-        return ["another report than in profile 1"] * (answer != run._replace(profile=1).wanted()[0])
-    return []
+        return met + ["another report than in profile 1"] * (answer != run._replace(profile=1).wanted()[0])
+    return met
+
+
+def met_by_limits(run, answer):
+    """What a run of limits meets, by this answer, and whether it is another one where each `@uses` is a call that needs nothing."""
+    where = "limits after makers: " if run.position is None else "limits before a line: "
+    needs_less = re.sub(r"@uses\([^)\n]*\)", "foo() RET 0", run.trace)
+    met = [what for what, pattern in LIMITS.items() for _ in re.findall(pattern, answer)]
+    return [where + what for what in met + ["a right that only a marker needs"] * (answer != run._replace(trace=needs_less).wanted()[0])]
 
 
 def print_met(seed, count):
@@ -714,10 +734,10 @@ class Laws:
 
     def not_in_the_way(self):
         """What is wrong with the line that the limits name as in the way of cap_enter."""
-        said = re.search(r"# no cap_enter: line (\d+), (\w+) of process (\d+)\n", self.script)
+        said = re.search(r"# no cap_enter: line (\d+), (@?\w+) of process (\d+)\n", self.script)
         if not said:
             return []
-        self.tried["lines in the way of cap_enter"] += 1
+        self.tried[f"{'markers' if said[2][0] == '@' else 'calls'} in the way of cap_enter"] += 1
         at, pid = self.run.position, reference.read(self.lines[self.run.position - 1])[0]
         lines, inserted = self.with_lines(f"insert {at} {pid} cap_enter() RET 0")
         found = [finding for _, finding in new_findings(self.old, self.report(lines), inserted) if finding.endswith(" forbidden")]

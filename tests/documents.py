@@ -1,13 +1,14 @@
 #!/usr/bin/env python3
 """Whether the pages name what is there: tests/documents.py [PROGRAM]
 
-- Each function, type, definition and clause in a column "Contract" of docs/PROOFS.md is declared in the crates.
+- Each function, type, definition and clause in a column "Contract" of docs/PROOFS.md is declared in the crate of its section.
+- Each clause that a page says is one of a function or of a definition is there.
 - Each file in a table of docs/ARCHITECTURE.md is there, and declares the functions beside it.
 - The definitions that docs/ARCHITECTURE.md lists as what must be believed rest only on one another, and none beside a folder
   specs/Code rests on that folder.
 - Each file and name that CONTRIBUTING.md has in backticks is in some crate or script.
-- Each path that a page has in backticks is there, and each method as `Type::method`. No line of a table has more than 200
-  characters.
+- Each path that a page has in backticks is there, each method as `Type::method`, and each name as `Definition`, `a_function` or
+  `file.rt`: in code, not in a comment. No line of a table has more than 200 characters.
 - docs/RIGHTS.md is what tools/rights_page.py makes.
 """
 
@@ -23,8 +24,13 @@ SOURCES = [*glob.glob("crates/*/src/**/*.rt", recursive=True), *glob.glob("crate
 PROOFS = glob.glob("crates/*/proofs/**/*.antt", recursive=True)
 SCRIPTS = [*glob.glob("contrib/*"), *glob.glob("tests/*"), *glob.glob("tools/*")]
 LONGEST = 200  # characters of a line of a table
-PATH = r"`((?:bench|contrib|crates|docs|examples|tests|tools|\.ci)/[^`\s]*|[A-Z]+\.md|LICENSE|\.gitmessage)`"
+PATH = r"`((?:bench|contrib|crates|docs|examples|packaging|tests|tools|\.ci)/[^`\s]*|[A-Z]+\.md|LICENSE|\.gitmessage)`"
 STANDS_FOR = r"NAME|WHAT|CRATE"  # in a path, these stand for any name
+NAME = r"[A-Z]\w*[a-z]\w*|[a-z]\w*_\w+"  # as of a definition or a type, or as of a function
+NAMES = r"`\w+`(?:(?:, | and )`\w+`)*"  # one name in backticks, or several
+FUNCTIONS = r"`[\w:]+`(?:(?:, | and )`[\w:]+`)*"
+BEGIN = r"\s*(?:pub |pub\(crate\) )?"  # of a declaration
+OF_THE_PROVER = ("Lts", "Proof", "Tie")  # docs/GATE.md tells of these files of its work
 wrong = []
 
 
@@ -56,15 +62,59 @@ def declared_in(path):
     return {*re.findall(r"\b(?:fn|struct|enum|trait|record|ensures) (\w+)", text), *re.findall(r"\bpub (\w+)", text)}
 
 
-def check_contracts(everything):
-    """That each contract of docs/PROOFS.md is among these."""
-    column = None
-    for where, cells in rows_of("docs/PROOFS.md"):
-        heads = [cells.index(head) for head in ("Contract", "Clause") if head in cells]
-        if heads:
-            column = heads[0]
-        else:
-            wrong.extend(f"{where}: nothing declares {name}" for name in names_in(cells[column]) if name not in everything)
+def declared_by_crates():
+    """The names that each crate declares."""
+    declared = {}
+    for path in SOURCES:
+        declared.setdefault(path.split("/")[1], set()).update(declared_in(path))
+    return declared
+
+
+def is_declared(name, crate, declared):
+    """Whether a crate declares a name, or where it has no type of this name another crate declares both."""
+    *types, last = name.split("::")
+    owners = [of for of in declared if types and types[0] in declared[of]]
+    if crate in owners or not owners:
+        owners = [crate] if crate else [*declared]
+    return any(last in declared[of] for of in owners)
+
+
+def check_contracts(declared):
+    """That each contract of docs/PROOFS.md is declared: in a section of a crate by that crate."""
+    heads = {where: line[3:].split(":")[0] for where, line in lines_of("docs/PROOFS.md") if line.startswith("## ")}
+    rows, crate, column = dict(rows_of("docs/PROOFS.md")), None, None
+    for where, line in lines_of("docs/PROOFS.md"):
+        if where in heads:
+            crate = heads[where] if heads[where] in declared else None
+        cells = rows.get(where, [])
+        columns = [cells.index(head) for head in ("Contract", "Clause") if head in cells]
+        if columns:
+            column = columns[0]
+        elif cells:
+            names = [name for name in re.findall(r"`([\w:]+)`", cells[column]) if not is_declared(name, crate, declared)]
+            wrong.extend(f"{where}: {crate or 'no crate'} declares no {name}" for name in names)
+
+
+def clauses_of_all():
+    """For each function the names of its clauses, and for each record those of its fields."""
+    clauses = {}
+    for path in SOURCES:
+        for part in re.split(rf"\n(?={BEGIN}(?:fn|record|abbrev|data|unfoldable) )", text_of(path)):
+            head = re.match(rf"{BEGIN}(fn|record) (?:pub )?(\w+)", part)
+            if head:
+                found = re.findall(r"\bensures (\w+) \{" if head[1] == "fn" else r"^  pub (\w+) :", part, re.M)
+                clauses.setdefault(head[2], set()).update(found)
+    return clauses
+
+
+def clauses_named(line):
+    """Each clause that a line of a page names, with the function or the definition that should have it."""
+    pairs = re.findall(rf"clauses? ({NAMES}) of ({FUNCTIONS})", line)
+    pairs += [(clause, of) for of, clause in re.findall(r"(`[\w:]+`) \(clause (`\w+`)\)", line)]
+    pairs += re.findall(rf"({NAMES}) in (`[A-Z]\w+`)", line)
+    pairs += [(f"`{clause}`", f"`{of}`") for of, clause in re.findall(r"`([A-Z]\w+)\.(\w+)`", line)]
+    each = [(re.findall(r"`(\w+)`", clauses), re.findall(r"(\w+)`", owners)) for clauses, owners in pairs]
+    return [(clause, of) for clauses, owners in each for clause in clauses for of in owners]
 
 
 def check_file(where, path, names):
@@ -122,6 +172,40 @@ def check_lists():
                 wrong.append(f"{where}: nothing has {name}")
 
 
+def words_of_code():
+    """The names in the code of the crates, without comments, and of its files and folders; and the words of scripts."""
+    words = {os.path.splitext(name)[0] for path in SOURCES for name in path.split("/")}
+    for path in [*SOURCES, *PROOFS]:
+        words.update(re.findall(r"\w+", re.sub(r"//.*" if path.endswith(".rt") else r"--.*", "", text_of(path))))
+    return words, set().union(*(re.findall(r"\w+", text_of(path)) for path in filter(os.path.isfile, SCRIPTS)))
+
+
+def lines_of_words(page):
+    """The lines of a page that are no example, each with where it is."""
+    is_example, lines = False, []
+    for where, line in lines_of(page):
+        is_example ^= line.startswith("```")
+        if not is_example and not line.startswith("    "):
+            lines.append((where, line))
+    return lines
+
+
+def check_names(page, words, clauses):
+    """That the names of a page are in the code, system calls at least in some script, and that its clauses are there."""
+    code, scripts = words
+    for where, line in lines_of_words(page):
+        is_wrong_body = page == "docs/TESTING.md" and line.startswith("- `")
+        parts = [part for name in re.findall(r"`([\w:.]+)`", line)[is_wrong_body:] for part in re.split(r"::|\.", name)]
+        for name in (part for part in parts if re.fullmatch(NAME, part)):
+            if name not in code and not (name.islower() and name in scripts) and name not in OF_THE_PROVER:
+                wrong.append(f"{where}: nothing has {name}")
+        for name in re.findall(r"`(?!crates/)([\w/]+\.(?:rt|antt))`", line):
+            if not glob.glob(f"crates/**/{name}", recursive=True):
+                wrong.append(f"{where}: there is no {name}")
+        named = [(it, of) for it, of in clauses_named(line) if of in clauses and it not in clauses[of]]
+        wrong.extend(f"{where}: {of} has no clause {it}" for it, of in named)
+
+
 def check_page(page, everything):
     """That the paths of a page are there, its methods among these, and that no line of its tables is long."""
     for where, line in lines_of(page):
@@ -143,12 +227,14 @@ def check_rights():
 
 
 def main():
-    everything = set().union(*map(declared_in, SOURCES))
-    check_contracts(everything)
+    declared, words, clauses = declared_by_crates(), words_of_code(), clauses_of_all()
+    check_contracts(declared)
     check_files()
     check_lists()
     for page in PAGES:
-        check_page(page, everything)
+        check_page(page, set().union(*declared.values()))
+        if page not in ("CHANGELOG.md", "CONTRIBUTING.md"):
+            check_names(page, words, clauses)
     check_rights()
     print(*wrong, f"{len(PAGES)} pages: {f'{len(wrong)} things are wrong' if wrong else 'all that they name is there'}", sep="\n")
     sys.exit(1 if wrong else 0)

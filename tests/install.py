@@ -97,7 +97,7 @@ def programs():
     compare("capcheck", version, installed("capcheck", "--version"))
     recording = file_of("recording", "100: openat(AT_FDCWD,\"a\",O_RDONLY,00)\t = 3 (0x3)\n"
                         "100: cap_rights_limit(3,{ CAP_READ })\t = 0 (0x0)\n100: fstat(3,{ mode=-rw-r--r-- })\t = 0 (0x0)\n")
-    trace = ('100 @start(0,1,2)\n100 openat(AT_FDCWD,"a",O_RDONLY) RET 3\n100 cap_rights_limit(3,CAP_READ) RET 0\n'
+    trace = ('# kernel 14\n100 @start(0,1,2)\n100 openat(AT_FDCWD,"a",O_RDONLY) RET 3\n100 cap_rights_limit(3,CAP_READ) RET 0\n'
              "100 fstat(3) RET 0\n")
     compare("capcheck-truss", (0, trace), installed("capcheck-truss", "--start", "0,1,2", recording)[:2])
     trace = file_of("trace", trace)
@@ -190,7 +190,8 @@ def completions():
         (["capcheck-truss", "--out"], "--output "), (["capcheck-truss", "--sta"], "--start "), (["capcheck-annotate", "--cap"], "--capcheck "),
         (["capcheck-whatif", "--"], "--capcheck --help --profile --version "), (["capcheck-whatif", "-p"], "-p "),
         (["capcheck-annotate", "--format", "h"], "html "), (["capcheck-whatif", "--profile", ""], "1 2 "),
-        (["capcheck-truss", "--pid", ""], " "), (["capcheck-whatif", "--capcheck", "-"], " "), (["/none/capcheck", "-"], " "),
+        (["capcheck-truss", "--pid", ""], " "), (["capcheck-truss", "--ker"], "--kernel "), (["capcheck-truss", "--kernel", ""], "12 13 14 15 "),
+        (["capcheck-whatif", "--capcheck", "-"], " "), (["/none/capcheck", "-"], " "),
     ]:
         file = os.path.basename(words[0])
         compare(f"completion of {words}", (0, wanted, ""), completed(words, file=file))

@@ -16,8 +16,8 @@ import symtable
 import sys
 import warnings
 
-FOLDERS = (".ci", "bench", "contrib", "examples", "tests", "tools")
-ENDINGS = {"#!/usr/bin/env python3": ".py", "#!/usr/bin/env bash": ".sh"}
+FOLDERS = (".ci", "bench", "contrib", "examples", "packaging", "tests", "tools")
+ENDINGS = {"#!/usr/bin/env python3": ".py", "#!/usr/bin/env bash": ".sh", "#!/bin/sh": ".sh"}
 NO_ENDING = (".ci/run",)
 KNOWN = {*dir(builtins), "__file__"}
 

@@ -15,14 +15,16 @@ import tempfile
 import compiler
 
 ROOT = os.path.dirname(os.path.dirname(os.path.abspath(__file__)))
-SCRIPTS = ["contrib", "examples", "tests", "tools", "bench", ".ci"]  # the folders that they are in
+SCRIPTS = ["contrib", "examples", "packaging", "tests", "tools", "bench", ".ci"]  # the folders that they are in
 SOURCES = ["refuse", "refuse_each", "fail_reads"]
 COMPILED = ["out_of_memory.py P", "out_of_memory.py --tests P", "allocation_counts.py P", "refusals.py P", "hostile_input.py P"]
-PROVERS = ["tests/gate.py", "tools/build_unproved.py OUT"]
+PROVERS = ["tests/gate.py", "tools/build_unproved.py OUT", "packaging/dist.py OUT"]
 PROVERS += ["bench/parse_times.py", "bench/explain_times.py P", "bench/summary_times.py", "bench/tree_times.py"]
 COUNTERS = ["bench/edit_instructions.py P", "bench/command_instructions.py P", "bench/fork_instructions.py P"]
 WITH_PROGRAM = ["examples.sh", "compare.py", "missing_programs.py", *(it.split()[0] for it in COMPILED)]
-TARGETS = {"python3": ["run", "-B capcheck", "refusals", "test", "wrong"], "bash": ["test"], "git": ["wrong"]}
+WITH_PROGRAM += ["failing_devices.py", "native.py", "archives.py"]
+TARGETS = {"python3": ["run", "-B capcheck", "refusals", "test", "wrong", "dist"], "bash": ["test"], "git": ["wrong", "dist"]}
+TARGETS["cc"] = ["dist"]
 TARGETS["rt"] = TARGETS["python3"]
 # In the place of `rt`: what it is asked for is answered by the program, or, as code that `rt try` refuses, by status 1 alone.
 TRIES = '#!/bin/sh\ntest "$*" = "try -- check" || exit 9\nexec {} check\n'
@@ -72,7 +74,7 @@ def scripts():
 
 def without_one(program, folder):
     """Scripts, and make, that lack one program."""
-    paths = {tool: path_without([tool], folder) for tool in ("python3", "bash", "rt", "git", "valgrind")}
+    paths = {tool: path_without([tool], folder) for tool in ("python3", "bash", "rt", "git", "valgrind", "cc")}
     for script, tool in scripts():
         ends([script], paths[tool], 127, rf".*env: .{tool}.: .*\n")
     for tool, needy in (("rt", PROVERS), ("valgrind", COUNTERS)):

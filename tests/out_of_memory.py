@@ -28,6 +28,7 @@ insert 3 100 cap_rights_limit(5,CAP_READ|CAP_SEEK) RET 0
 replace 7 101 write(5) RET 1
 report
 replace 1 100 @start(0,1,2,3)
+insert 6 101 @uses(5,CAP_EVENT|CAP_READ)
 show 3
 report 6 7
 delete 9
@@ -52,6 +53,13 @@ DENIED = """100 cap_rights_limit(3,CAP_READ) RET 0
 100 renameat(3,"a",4,"b") RET -1 errno 93
 101 cap_rights_limit(3,NONE) RET -1 errno 93
 101 open("a",O_RDONLY) RET -1 errno 94
+"""
+USED = """100 @start(3)
+100 cap_rights_limit(3,CAP_READ) RET 0
+100 cap_enter() RET 0
+100 @uses(3,CAP_EVENT)
+100 @global()
+100 @refused(3,CAP_EVENT|CAP_WRITE)
 """
 START = "100 out closed 3=ALL\n101 in unknown 0=CAP_READ 40=unknown\n"
 BAD_START = START + "102 out\n"
@@ -111,18 +119,25 @@ def main():
         sys.exit(2)
     with tempfile.TemporaryDirectory() as folder:
         library = compiler.library("refuse", folder)
-        if sys.argv[1] == "--tests":
-            tests_of(os.path.abspath(sys.argv[2]), sys.argv[3:], library)
+        of_crate = sys.argv[1] == "--tests"
+        binary = os.path.abspath(sys.argv[1 + of_crate])
+        compiler.loads(binary)
+        if of_crate:
+            tests_of(binary, sys.argv[3:], library)
         else:
-            runs_of(os.path.abspath(sys.argv[1]), folder, library)
+            runs_of(binary, folder, library)
 
 
 def runs_of(program, folder, library):
     """Runs of the program."""
     runs = 0
-    texts = {"trace": TRACE, "refused": REFUSED, "script": SCRIPT, "execs": EXECS, "denied": DENIED, "start": START, "bad_start": BAD_START}
-    trace, refused, script, execs, denied, start, bad_start = (os.path.join(folder, name) for name in texts)
-    for path, text in zip((trace, refused, script, execs, denied, start, bad_start), texts.values()):
+    texts = {
+        "trace": TRACE, "refused": REFUSED, "script": SCRIPT, "execs": EXECS, "denied": DENIED, "used": USED, "start": START,
+        "bad_start": BAD_START,
+    }  # fmt: skip
+    paths = [os.path.join(folder, name) for name in texts]
+    trace, refused, script, execs, denied, used, start, bad_start = paths
+    for path, text in zip(paths, texts.values()):
         with open(path, "w") as file:
             file.write(text)
     for words, given, answers in (
@@ -146,6 +161,12 @@ def runs_of(program, folder, library):
         (["denials", denied, "--start", start, "--profile", "2"], "", set()),
         (["denials", denied, "--start", bad_start], "", set()),
         (["denials", refused], "", set()),
+        (["check", used], "", set()),
+        (["explain", used, "4"], "", set()),
+        (["explain", used, "6"], "", set()),
+        (["denials", used], "", set()),
+        (["limits", used, "1"], "", set()),
+        (["limits", used, "2"], "", set()),
         (["limits", trace, "2"], "", set()),
         (["limits", "-", "5"], TRACE, set()),
         (["limits", execs, "2", "--start", start, "--profile", "2"], "", set()),
@@ -171,6 +192,8 @@ def runs_of(program, folder, library):
             if got not in {ample, (3, "", OUT_OF_MEMORY)} | answers:
                 sys.exit(f"{words}: with allocation {number} refused: {got}")
             seen.add(got)
+        if not number:
+            sys.exit(f"{words}: no allocation was refused")
         print(f"{' '.join(words).replace(folder + '/', '')}: {number} allocations, {len(seen)} answers")
         runs += number
     print(f"{runs} runs that each lack one allocation: right, or E9")

@@ -3,8 +3,8 @@
 
 The recordings were written after truss's manual and source; none comes from a machine. The traces were worked out by hand.
 Each trace is checked by the program, which must accept it. At the end two thousand recordings with random faults are
-converted: none may end the converter with an error, and the program must accept what it writes. Then come recordings of random
-programs under a small kernel that answers rightly, so the program may find nothing in them.
+converted: none may end the converter with an error, and the program must accept what it writes. tests/kernel.py has recordings
+of programs under a small kernel.
 CONVERTER=PATH in the environment tests another converter than contrib/truss2trace.py.
 """
 
@@ -28,7 +28,9 @@ CONVERTER = os.path.abspath(os.environ.get("CONVERTER") or os.path.join(HERE, ".
 FOLDER = tempfile.TemporaryDirectory()
 RECORDING, TRACE = (os.path.join(FOLDER.name, name) for name in ("recording", "trace"))
 MUTANTS = 2000
-PROGRAMS = 2000
+KERNELS = ("12", "13", "14", "15")
+PLAIN = "# no kernel's needs\n"
+MARKERS = re.compile(r"[0-9]+ @(?:uses|global|refused)\(.*\)")
 count = wrong = 0
 recordings = []
 
@@ -70,11 +72,12 @@ def converted(recording, options):
 
 
 def case(name, recording, trace, options=(), notes=(), findings=None, summary=None):
-    """A recording, its trace, the numbers of the lines that can't be read, what capcheck finds, and the last line's text."""
+    """A recording, its trace without a kernel's needs, the numbers of the lines that can't be read, what capcheck finds,
+    and the last line's text. With a kernel's needs the same lines come in this order, and of them no more is found."""
     global count
     count += 1
-    trace = trace.removeprefix("\n")
-    status, got, said = converted(recording, options)
+    trace = PLAIN + trace.removeprefix("\n")
+    status, got, said = converted(recording, ["--plain", *options])
     if got != trace:
         fault(name, "trace", trace, got)
     *said, last = said.splitlines() or [""]
@@ -89,15 +92,36 @@ def case(name, recording, trace, options=(), notes=(), findings=None, summary=No
     report = accepted(name, got)
     if findings is not None and report != findings.removeprefix("\n"):
         fault(name, "report", findings, report)
+    with_needs(name, recording, got, report, options)
 
 
-def honest(name, recording, options=("--start", "0,1,2")):
-    """The recording of a program that did nothing wrong: nothing is found in either profile."""
+def with_needs(name, recording, plain, report, options):
+    """The trace with a kernel's needs has the lines of the one without, in this order."""
+    trace = converted(recording, options)[1]
+    lines = iter(trace.splitlines())
+    lost = [line for line in plain.splitlines()[1:] if line not in lines]
+    if lost:
+        fault(name, "a kernel's needs", lost[0], trace)
+    found = [re.sub("^[0-9]+ ", "", each) for each in accepted(name, trace).splitlines()[:-1]]
+    before = [re.sub("^[0-9]+ ", "", each) for each in report.splitlines()[:-1]]
+    more = [each for each in found if each not in before and " @" not in each]
+    if more:
+        fault(name, "found with a kernel's needs", "nothing more", f"{more}\n{trace}")
+
+
+def honest(name, recording, options=("--start", "0,1,2"), said=0):
+    """The recording of a program that did nothing wrong: nothing is found in either profile, with the needs of any kernel.
+    So many lines are said of calls that the table is against."""
+    for kernel in (["--plain"], *(["--kernel", kernel] for kernel in KERNELS)):
+        honest_with(f"{name}, {' '.join(kernel)}", recording, [*kernel, *options], 0 if kernel == ["--plain"] else said)
+
+
+def honest_with(name, recording, options, more):
     global count
     count += 1
     status, trace, said = converted(recording, options)
-    if status != 0 or len(said.splitlines()) != 1:
-        fault(name, "status", 0, f"{status} {said}")
+    if status != 0 or len(said.splitlines()) != 1 + more:
+        fault(name, "status", f"0, {more} lines", f"{status} {said}")
     for profile in ("1", "2"):
         got = report_of(trace, profile)
         if got != (0, "findings 0\n"):
@@ -108,7 +132,7 @@ def felt(name, recording, before, line, findings, profiles=("1", "2"), options=(
     """What is found when a line is put into the trace, before the first line that begins so. Places are left out."""
     global count
     count += 1
-    lines = converted(recording, options)[1].splitlines()
+    lines = converted(recording, ["--plain", *options])[1].splitlines()[1:]
     place = next((place for place, other in enumerate(lines) if other.startswith(before)), None)
     if place is None:
         fault(name, "no such line", before, "\n".join(lines))
@@ -1123,7 +1147,7 @@ honest("a threaded server", """
   900 100090: <thread 100090 exited>
   900 100091: close(4)				 = 0 (0x0)
   900 100071: process exit, rval = 0
-""")
+""", said=1)
 
 honest("cat with libcasper", """
   500: openat(AT_FDCWD,"/lib/libcasper.so.1",O_RDONLY|O_CLOEXEC|O_VERIFY,00) = 3 (0x3)
@@ -1352,6 +1376,757 @@ case("what isn't judged", """
 """, summary="7 calls written; not judged: kevent 2, connect 1, poll 1, sendto 1")
 
 
+# ---- What a kernel demands
+
+
+def demands(name, recording, trace, options=("--start", "0,1,2"), said=(), findings="findings 0\n", heading="# kernel 14"):
+    """A recording, its trace with a kernel's needs, what is said of it, and what the program finds."""
+    global count
+    count += 1
+    status, got, notes = converted(recording, options)
+    wanted = heading + "\n" + trace.removeprefix("\n")
+    if got != wanted:
+        fault(name, "trace", wanted, got)
+    if [line.removeprefix("truss2trace: ") for line in notes.splitlines()[:-1]] != list(said):
+        fault(name, "said", said, notes)
+    report = accepted(name, got)
+    if findings is not None and report != findings.removeprefix("\n"):
+        fault(name, "report", findings, report)
+
+
+demands("a queue", """
+  100: socket(PF_INET,SOCK_STREAM,0) = 3 (0x3)
+  100: kqueue() = 4 (0x4)
+  100: cap_rights_limit(3,{ CAP_READ,CAP_WRITE }) = 0 (0x0)
+  100: kevent(4,{ 3,EVFILT_READ,EV_ADD,0,0,0x0 },1,0x0,0,0x0) = 0 (0x0)
+""", """
+100 @start(0,1,2)
+100 socket(PF_INET|SOCK_STREAM) RET 3
+100 kqueue() RET 4
+100 cap_rights_limit(3,CAP_READ|CAP_WRITE) RET 0
+100 kevent(4,{ 3,EVFILT_READ,EV_ADD,0,0,0x0 },1,0x0,0,0x0) RET 0
+100 @uses(3,CAP_EVENT)
+100 @uses(4,CAP_KQUEUE_CHANGE)
+""", findings="""
+6 100 @uses missing 3 CAP_EVENT
+findings 1
+""")
+
+demands("poll", """
+  100: open("log",O_WRONLY|O_APPEND,00) = 3 (0x3)
+  100: poll({ 0/POLLIN },1,-1) = 1 (0x1)
+  100: read(0,"a"...,80) = 80 (0x50)
+  100: write(3,"a"...,80) = 80 (0x50)
+""", """
+100 @start(0,1,2)
+100 open("log",O_WRONLY|O_APPEND) RET 3
+100 poll({ 0/POLLIN },1,-1) RET 1
+100 @uses(0,CAP_EVENT)
+100 read(0) RET 80
+100 write(3) RET 80
+""")
+
+demands("connect", """
+  100: socket(PF_INET,SOCK_STREAM,0) = 3 (0x3)
+  100: connect(3,{ AF_INET 10.0.0.1:53 },16) = 0 (0x0)
+  100: write(3,"a"...,10) = 10 (0xa)
+""", """
+100 @start(0,1,2)
+100 socket(PF_INET|SOCK_STREAM) RET 3
+100 connect(3) RET 0
+100 @global()
+100 write(3) RET 10
+""")
+
+demands("accept", """
+  200: socket(PF_INET,SOCK_STREAM,0) = 3 (0x3)
+  200: bind(3,{ AF_INET 0.0.0.0:80 },16) = 0 (0x0)
+  200: listen(3,128) = 0 (0x0)
+  200: accept4(3,{ AF_INET 10.0.0.1:4000 },0x7fffffffe8b0,SOCK_CLOEXEC) = 4 (0x4)
+  200: read(4,"a"...,4096) = 118 (0x76)
+  200: write(4,"a"...,4310) = 4310 (0x10d6)
+  200: close(4) = 0 (0x0)
+  200: accept(3,{ AF_INET 10.0.0.1:4000 },0x7fffffffe8b0) = 4 (0x4)
+  200: ioctl(4,FIONBIO,0x0) = 0 (0x0)
+  200: mmap(0x0,4096,PROT_READ|PROT_WRITE,MAP_SHARED,4,0x0) = 34366414848 (0x80062a000)
+  200: fcntl(4,F_SETFL,O_RDWR|O_NONBLOCK) = 0 (0x0)
+  200: sendto(4,"a",1,0,NULL,0) = 1 (0x1)
+""", """
+200 @start(0,1,2)
+200 socket(PF_INET|SOCK_STREAM) RET 3
+200 bind(3) RET 0
+200 @global()
+200 listen(3) RET 0
+200 accept4(3,SOCK_CLOEXEC) RET 4
+200 fcntl(3,F_DUP2FD_CLOEXEC,4) RET 4
+200 read(4) RET 118
+200 write(4) RET 4310
+200 close(4) RET 0
+200 accept(3) RET 4
+200 fcntl(3,F_DUP2FD,4) RET 4
+200 ioctl(4) RET 0
+200 mmap(4,PROT_READ|PROT_WRITE,MAP_SHARED) RET 34366414848
+200 fcntl(4,F_SETFL) RET 0
+200 sendto(4) RET 1
+""")
+
+LISTENER = """
+  200: cap_rights_limit(3,{ CAP_ACCEPT,CAP_READ }) = 0 (0x0)
+  200: accept(3,{ AF_INET 10.0.0.1:4000 },0x7fffffffe8b0) = 4 (0x4)
+  200: accept(3,{ AF_INET 10.0.0.2:4000 },0x7fffffffe8b0) = 5 (0x5)
+  200: accept(3,{ AF_INET 10.0.0.3:4000 },0x7fffffffe8b0) = 6 (0x6)
+  200: accept(3,{ AF_INET 10.0.0.4:4000 },0x7fffffffe8b0) = 7 (0x7)
+  200: read(4,"a"...,4096) = 118 (0x76)
+  200: fork() = 201 (0xc9)
+  201: dup(5) = 8 (0x8)
+  201: write(8,"a"...,4310) = 4310 (0x10d6)
+  201: write(8,"a"...,4310) = 4310 (0x10d6)
+  200: cap_rights_limit(6,{ CAP_READ,CAP_WRITE }) = 0 (0x0)
+  200: poll({ 4/POLLIN 7/POLLIN },2,-1) = 1 (0x1)
+  200: select(8,{ 7 },0x0,0x0,0x0) = 1 (0x1)
+"""
+demands("what the listener lacks", LISTENER, """
+200 @start(0,1,2,3)
+200 cap_rights_limit(3,CAP_READ|CAP_ACCEPT) RET 0
+200 accept(3) RET 4
+200 fcntl(3,F_DUP2FD,4) RET 4
+200 accept(3) RET 5
+200 accept(3) RET 6
+200 accept(3) RET 7
+200 read(4) RET 118
+200 fork() RET 201
+201 dup(5) RET 8
+201 write(8) RET 4310
+201 write(8) RET 4310
+200 cap_rights_limit(6,CAP_READ|CAP_WRITE) RET 0
+200 poll({ 4/POLLIN 7/POLLIN },2,-1) RET 1
+200 @refused(4,CAP_EVENT)
+200 @refused(7,CAP_EVENT)
+200 select(8,{ 7 },0x0,0x0,0x0) RET 1
+200 @uses(7,CAP_EVENT)
+""", ["--start", "0,1,2,3"], [
+    "line 9: write succeeded, though the listener 3 lacks CAP_WRITE: nothing is known of the accepted descriptor",
+    "line 11: cap_rights_limit succeeded, though the listener 3 lacks CAP_WRITE: nothing is known of the accepted descriptor",
+    "line 13: select succeeded, though the listener 3 lacks CAP_EVENT: nothing is known of the accepted descriptor",
+])
+
+demands("at a directory", """
+  100: openat(AT_FDCWD,"/var/db/tool",O_RDONLY|O_DIRECTORY,00) = 3 (0x3)
+  100: openat(3,"state",O_RDWR|O_CREAT,0644) = 4 (0x4)
+  100: getdirentries(0x3,0x800a00000,0x1000,0x7fffffffe5a8) = 120 (0x78)
+  100: faccessat(0x3,"lock",F_OK,0) = 0 (0x0)
+  100: write(4,"a"...,5) = 5 (0x5)
+  100: openat(3,"log",O_WRONLY|O_APPEND,00) = 5 (0x5)
+  100: openat(3,"new",O_RDWR|O_CREAT|O_TRUNC,0644) = 6 (0x6)
+  100: faccessat(0xffffff9c,"lock",F_OK,0) = 0 (0x0)
+  100: faccessat(0x3,"/lock",F_OK,0) = 0 (0x0)
+  100: openat(3,"/etc/passwd",O_RDWR,00) = 7 (0x7)
+""", """
+100 @start(0,1,2)
+100 openat(AT_FDCWD,"/var/db/tool",O_RDONLY|O_DIRECTORY) RET 3
+100 openat(3,"state",O_RDWR|O_CREAT) RET 4
+100 @uses(3,CAP_SEEK)
+100 getdirentries(0x3,0x800a00000,0x1000,0x7fffffffe5a8) RET 120
+100 @uses(3,CAP_READ)
+100 faccessat(0x3,"lock",F_OK,0) RET 0
+100 @uses(3,CAP_LOOKUP|CAP_FSTAT)
+100 write(4) RET 5
+100 openat(3,"log",O_WRONLY|O_APPEND) RET 5
+100 openat(3,"new",O_RDWR|O_CREAT|O_TRUNC) RET 6
+100 faccessat(0xffffff9c,"lock",F_OK,0) RET 0
+100 @global()
+100 faccessat(0x3,"/lock",F_OK,0) RET 0
+100 @global()
+100 openat(3,"/etc/passwd",O_RDWR) RET 7
+""")
+
+RENAMES = """
+  100: openat(AT_FDCWD,"d",O_RDONLY|O_DIRECTORY,00) = 3 (0x3)
+  100: openat(3,"last",O_RDONLY,00) = 4 (0x4)
+  100: mkdirat(3,"made",0755) = 0 (0x0)
+  100: dup(3) = 5 (0x5)
+  100: cap_rights_limit(5,{ CAP_LOOKUP,CAP_RENAMEAT_SOURCE,CAP_RENAMEAT_TARGET }) = 0 (0x0)
+  100: renameat(5,"a",5,"b") = 0 (0x0)
+  100: renameat(5,"a",5,"last") = 0 (0x0)
+  100: unlinkat(3,"made",AT_REMOVEDIR) = 0 (0x0)
+  100: renameat(5,"a",5,"made") = 0 (0x0)
+  100: renameat(3,"a",3,"c") = 0 (0x0)
+  100: renameat(5,"a",5,"c") = 0 (0x0)
+"""
+demands("rename over what is there", RENAMES, """
+100 @start(0,1,2)
+100 openat(AT_FDCWD,"d",O_RDONLY|O_DIRECTORY) RET 3
+100 openat(3,"last",O_RDONLY) RET 4
+100 mkdirat(3,"made") RET 0
+100 dup(3) RET 5
+100 cap_rights_limit(5,CAP_LOOKUP|CAP_RENAMEAT_SOURCE|CAP_RENAMEAT_TARGET) RET 0
+100 renameat(5,"a",5,"b") RET 0
+100 renameat(5,"a",5,"last") RET 0
+100 unlinkat(3,"made",AT_REMOVEDIR) RET 0
+100 renameat(5,"a",5,"made") RET 0
+100 renameat(3,"a",3,"c") RET 0
+100 @uses(3,CAP_UNLINKAT)
+100 renameat(5,"a",5,"c") RET 0
+100 @uses(5,CAP_UNLINKAT)
+""", findings="""
+14 100 @uses missing 5 CAP_UNLINKAT
+findings 1
+""")
+
+demands("children, and devices that copy a descriptor", """
+  100: cap_enter() = 0 (0x0)
+  100: fork() = 101 (0x65)
+  101: exit(0x0)
+  101: process exit, rval = 0
+  100: wait4(101,{ EXITED,val=0 },0x0,0x0) = 101 (0x65)
+  200: open("/dev/fd/1",O_WRONLY,00) = 3 (0x3)
+  200: wait6(P_PID,201,0x0,0x0,0x0,0x0) = 201 (0xc9)
+  200: kill(200,SIGTERM) = 0 (0x0)
+  200: kill(201,SIGTERM) = 0 (0x0)
+  200: pdfork({ 5 },PD_DAEMON) = 202 (0xca)
+  200: pdfork({ 6 },0x0) = 203 (0xcb)
+  200: shm_open(SHM_ANON,O_RDWR,00) = 7 (0x7)
+  200: shm_open("/memory",O_RDWR,00) = 8 (0x8)
+  200: sendto(3,"a",1,0,{ AF_INET 10.0.0.1:53 },16) = 1 (0x1)
+  200: kenv(0x0,"a(b",0x0,0) = 0 (0x0)
+""", """
+100 @start(0,1,2)
+100 cap_enter() RET 0
+100 fork() RET 101
+101 @exit()
+100 wait4(101,{ EXITED,val=0 },0x0,0x0) RET 101
+200 fcntl(1,F_DUPFD) RET 3
+200 @global()
+200 wait6(P_PID,201,0x0,0x0,0x0,0x0) RET 201
+200 @global()
+200 kill(200,SIGTERM) RET 0
+200 kill(201,SIGTERM) RET 0
+200 @global()
+200 pdfork() RET 202,5
+200 @global()
+200 pdfork() RET 203,6
+200 shm_open() RET 7
+200 shm_open() RET 8
+200 @global()
+200 sendto(3,DEST) RET 1
+200 @global()
+200 @global()
+""", said=["line 5: wait4 succeeded in capability mode: --kernel 15?"])
+
+demands("a child, an unknown descriptor, an exec", """
+  100: open("a",O_RDONLY|O_CLOEXEC,00) = 3 (0x3)
+  100: recvmsg(0,{NULL,0,[{"a",1}],1,{{level=SOL_SOCKET,type=SCM_RIGHTS,data={5}}},20,0},0) = 1 (0x1)
+  100: fork() = 101 (0x65)
+  101: sendfile(0x3,0x5,0x0,0x10d6,0x0,0x0,0x0) = 0 (0x0)
+  101: execve("/bin/x",[ "x" ],0x7fffffffe8c0) EJUSTRETURN
+  101: aio_cancel(0x3,0x0) = 2 (0x2)
+  101: poll({ 3/POLLIN },1,0) = 1 (0x1)
+""", """
+100 @start(0,1,2)
+100 fcntl(0,F_SETFD,0) RET 0
+100 fcntl(1,F_SETFD,0) RET 0
+100 fcntl(2,F_SETFD,0) RET 0
+100 open("a",O_RDONLY|O_CLOEXEC) RET 3
+100 recvmsg(0) RET 1
+100 @foreign(5)
+100 fork() RET 101
+101 sendfile(0x3,0x5,0x0,0x10d6,0x0,0x0,0x0) RET 0
+101 @uses(3,CAP_READ|CAP_SEEK)
+101 @uses(5,CAP_WRITE)
+101 execve("/bin/x") RET 0
+101 aio_cancel(0x3,0x0) RET 2
+101 poll({ 3/POLLIN },1,0) RET 1
+""")
+
+demands("refusals", """
+  100: kqueue() = 6 (0x6)
+  100: cap_rights_limit(5,{ CAP_READ }) = 0 (0x0)
+  100: cap_enter() = 0 (0x0)
+  100: kevent(6,{ 5,EVFILT_READ,EV_ADD,0,0,0x0 },1,0x0,0,0x0) ERR#93 'Capabilities insufficient'
+  100: poll({ 5/POLLIN },1,0) = 1 (0x1)
+  100: wait4(-1,0x0,0x0,0x0) ERR#94 'Not permitted in capability mode'
+  100: kevent(6,{ 5,EVFILT_READ,EV_ADD,0,0,0x0 0,EVFILT_WRITE,EV_ADD,0,0,0x0 },2,{ 5,EVFILT_READ,EV_ERROR,0,0x5d,0x0 },4,0x0) = 1 (0x1)
+  100: kevent(6,{ 5,EVFILT_READ,EV_DELETE,0,0,0x0 },1,{ 5,EVFILT_READ,EV_ERROR,0,0x2,0x0 },4,0x0) = 1 (0x1)
+  100: kevent(6,{ 5,EVFILT_READ,EV_ADD,0,0,0x0 },1,{ 9,EVFILT_USER,0,0,0,0x0 },4,0x0) = 1 (0x1)
+  100: faccessat(0x5,"a",F_OK,0) ERR#93 'Capabilities insufficient'
+""", """
+100 @start(0,1,2,5)
+100 kqueue() RET 6
+100 cap_rights_limit(5,CAP_READ) RET 0
+100 cap_enter() RET 0
+100 kevent(6,{ 5,EVFILT_READ,EV_ADD,0,0,0x0 },1,0x0,0,0x0) RET -1 errno 93
+100 @refused(5,CAP_EVENT)
+100 poll({ 5/POLLIN },1,0) RET 1
+100 @refused(5,CAP_EVENT)
+100 wait4(-1,0x0,0x0,0x0) RET -1 errno 94
+100 kevent(6,{ 5,EVFILT_READ,EV_ADD,0,0,0x0 0,EVFILT_WRITE,EV_ADD,0,0,0x0 },2,{ 5,EVFILT_READ,EV_ERROR,0,0x5d,0x0 },4,0x0) RET 1
+100 @uses(0,CAP_EVENT)
+100 @refused(5,CAP_EVENT)
+100 kevent(6,{ 5,EVFILT_READ,EV_DELETE,0,0,0x0 },1,{ 5,EVFILT_READ,EV_ERROR,0,0x2,0x0 },4,0x0) RET 1
+100 kevent(6,{ 5,EVFILT_READ,EV_ADD,0,0,0x0 },1,{ 9,EVFILT_USER,0,0,0,0x0 },4,0x0) RET 1
+100 @uses(6,CAP_KQUEUE_EVENT|CAP_KQUEUE_CHANGE)
+100 faccessat(0x5,"a",F_OK,0) RET -1 errno 93
+100 @refused(5,CAP_LOOKUP|CAP_FSTAT)
+""", ["--start", "0,1,2,5"], ["line 9: kevent succeeded without CAP_EVENT of descriptor 5"])
+
+demands("the last of the same uses", """
+  100: poll({ 0/POLLIN 1/POLLIN },2,-1) = 1 (0x1)
+  100: read(0,"a",1) = 1 (0x1)
+  100: poll({ 0/POLLIN 1/POLLIN },2,-1) = 1 (0x1)
+  100: cap_rights_limit(0,{ CAP_READ,CAP_EVENT }) = 0 (0x0)
+  100: poll({ 0/POLLIN 1/POLLIN },2,-1) = 1 (0x1)
+  100: fork() = 101 (0x65)
+  101: poll({ 0/POLLIN 1/POLLIN },2,-1) = 1 (0x1)
+  101: process exit, rval = 0
+  100: fork() = 101 (0x65)
+  101: poll({ 0/POLLIN 1/POLLIN },2,-1) = 1 (0x1)
+  100: poll({ 0/POLLIN },1,-1) = 1 (0x1)
+  100: connect(1,{ AF_INET 10.0.0.1:53 },16) = 0 (0x0)
+  100: connect(1,{ AF_INET 10.0.0.1:53 },16) = 0 (0x0)
+""", """
+100 @start(0,1,2)
+100 poll({ 0/POLLIN 1/POLLIN },2,-1) RET 1
+100 read(0) RET 1
+100 poll({ 0/POLLIN 1/POLLIN },2,-1) RET 1
+100 @uses(0,CAP_EVENT)
+100 cap_rights_limit(0,CAP_READ|CAP_EVENT) RET 0
+100 poll({ 0/POLLIN 1/POLLIN },2,-1) RET 1
+100 @uses(1,CAP_EVENT)
+100 fork() RET 101
+101 poll({ 0/POLLIN 1/POLLIN },2,-1) RET 1
+101 @uses(0,CAP_EVENT)
+101 @uses(1,CAP_EVENT)
+101 @exit()
+100 fork() RET 101
+101 poll({ 0/POLLIN 1/POLLIN },2,-1) RET 1
+101 @uses(0,CAP_EVENT)
+101 @uses(1,CAP_EVENT)
+100 poll({ 0/POLLIN },1,-1) RET 1
+100 @uses(0,CAP_EVENT)
+100 connect(1) RET 0
+100 @global()
+100 connect(1) RET 0
+100 @global()
+""")
+
+LATE = """
+  100: openat(AT_FDCWD,"d",O_RDONLY|O_DIRECTORY,00) = 3 (0x3)
+  100: openat(3,"last",O_RDWR,00) ERR#2 'No such file or directory'
+  100: read(0,0x7fffffffe8b0,1) ERR#35 'Resource temporarily unavailable'
+  100: poll({ 0/POLLIN },1,-1) ERR#4 'Interrupted system call'
+  100: connect(1,{ AF_INET 10.0.0.1:53 },16) ERR#36 'Operation now in progress'
+  100: connect(1,{ AF_INET 10.0.0.1:53 },16) ERR#37 'Operation already in progress'
+  100: connectat(3,2,{ AF_LOCAL "x" },106) ERR#36 'Operation now in progress'
+  100: connectat(AT_FDCWD,2,{ AF_LOCAL "x" },106) ERR#2 'No such file or directory'
+  100: read(9,0x7fffffffe8b0,1) ERR#9 'Bad file descriptor'
+  100: cap_rights_limit(2,{ CAP_READ }) = 0 (0x0)
+  100: write(2,0x7fffffffe8b0,1) ERR#4 'Interrupted system call'
+"""
+LATE_LINES = """
+100 @start(0,1,2)
+100 openat(AT_FDCWD,"d",O_RDONLY|O_DIRECTORY) RET 3
+100 openat(3,"last",O_RDWR) RET -1 errno 2
++100 @uses(3,CAP_READ|CAP_WRITE|CAP_SEEK|CAP_LOOKUP)
+100 read(0) RET -1 errno 35
++100 @uses(0,CAP_READ)
+100 poll({ 0/POLLIN },1,-1) RET -1 errno 4
++100 @uses(0,CAP_EVENT)
+100 connect(1) RET -1 errno 36
+-100 @uses(1,CAP_CONNECT)
+100 @global()
+100 connect(1) RET -1 errno 37
++100 @uses(1,CAP_CONNECT)
+100 connectat(3,2,{ AF_LOCAL "x" },106) RET -1 errno 36
+-100 @uses(2,CAP_CONNECT)
+100 @uses(3,CAP_LOOKUP|CAP_CONNECTAT)
+100 connectat(AT_FDCWD,2,{ AF_LOCAL "x" },106) RET -1 errno 2
++100 @uses(2,CAP_CONNECT)
+100 read(9) RET -1 errno 9
+100 cap_rights_limit(2,CAP_READ) RET 0
+100 write(2) RET -1 errno 4
+"""
+demands("calls that failed", LATE, re.sub(r"(?m)^\+.*\n|^-", "", LATE_LINES))
+demands("calls that failed, with --failed", LATE, re.sub(r"(?m)^-.*\n|^\+", "", LATE_LINES), ["--start", "0,1,2", "--failed"])
+
+demands("messages", """
+  100: open("a",O_RDWR,00) = 3 (0x3)
+  100: open("b",O_RDWR,00) = 4 (0x4)
+  100: cap_rights_limit(4,{ CAP_READ }) = 0 (0x0)
+  100: sendmsg(0,{NULL,0,[{"a",1}],1,{{level=SOL_SOCKET,type=SCM_RIGHTS,data={3,4}}},24,0},0) = 1 (0x1)
+  100: sendmsg(0,{NULL,0,[{"a",1}],1,{{level=SOL_SOCKET,type=SCM_RIGHTS,data={3}}},20,0},0) = 1 (0x1)
+  200: recvmsg(0,{NULL,0,[{"a",1}],1,{{level=SOL_SOCKET,type=SCM_RIGHTS,data={7,8}}},24,0},0) = 1 (0x1)
+  200: read(7,"a",1) = 1 (0x1)
+  200: dup(7) = 9 (0x9)
+  200: poll({ 9/POLLIN },1,0) = 1 (0x1)
+  200: read(8,"a",1) = 1 (0x1)
+  200: recvmsg(0,{NULL,0,[{"a",1}],1,{{level=SOL_SOCKET,type=SCM_RIGHTS,data={5}}},20,0},0) = 1 (0x1)
+  200: sendmsg(0,{NULL,0,[{"a",1}],1,{{level=SOL_SOCKET,type=SCM_RIGHTS,data={5}}},20,0},0) = 1 (0x1)
+  200: close(7) = 0 (0x0)
+  200: open("c",O_RDWR,00) = 7 (0x7)
+  200: fsync(7) = 0 (0x0)
+  300: recvmsg(0,{NULL,0,[{"a",1}],1,{{level=SOL_SOCKET,type=SCM_RIGHTS,data={3}}},20,0},0) = 1 (0x1)
+  300: ftruncate(3,0x0) = 0 (0x0)
+""", """
+100 @start(0,1,2)
+100 open("a",O_RDWR) RET 3
+100 open("b",O_RDWR) RET 4
+100 cap_rights_limit(4,CAP_READ) RET 0
+100 sendmsg(0) RET 1
+100 @uses(3,CAP_READ|CAP_EVENT)
+100 @uses(4,CAP_READ)
+100 sendmsg(0) RET 1
+100 @uses(3,CAP_FTRUNCATE)
+200 recvmsg(0) RET 1
+200 @foreign(7)
+200 @foreign(8)
+200 read(7) RET 1
+200 dup(7) RET 9
+200 poll({ 9/POLLIN },1,0) RET 1
+200 @uses(9,CAP_EVENT)
+200 read(8) RET 1
+200 recvmsg(0) RET 1
+200 @foreign(5)
+200 sendmsg(0) RET 1
+200 @uses(5,CAP_FTRUNCATE)
+200 close(7) RET 0
+200 open("c",O_RDWR) RET 7
+200 fsync(7) RET 0
+300 recvmsg(0) RET 1
+300 @foreign(3)
+300 ftruncate(3) RET 0
+""")
+demands("a message that another one was taken for", """
+  100: open("b",O_RDWR,00) = 3 (0x3)
+  100: cap_rights_limit(3,{ CAP_READ }) = 0 (0x0)
+  100: sendmsg(0,{NULL,0,[{"a",1}],1,{{level=SOL_SOCKET,type=SCM_RIGHTS,data={3}}},20,0},0) = 1 (0x1)
+  200: recvmsg(0,{NULL,0,[{"a",1}],1,{{level=SOL_SOCKET,type=SCM_RIGHTS,data={7}}},20,0},0) = 1 (0x1)
+  200: write(7,"a",1) = 1 (0x1)
+""", """
+100 @start(0,1,2)
+100 open("b",O_RDWR) RET 3
+100 cap_rights_limit(3,CAP_READ) RET 0
+100 sendmsg(0) RET 1
+200 recvmsg(0) RET 1
+200 @foreign(7)
+200 write(7) RET 1
+""", said=["line 3: sendmsg sent descriptor 3 without CAP_WRITE, which who received it used: perhaps another message"])
+
+demands("paths that leave their directory", """
+  100: open("d",O_RDONLY|O_DIRECTORY,00) = 4 (0x4)
+  100: openat(3,"e",O_RDONLY|O_DIRECTORY,00) = 5 (0x5)
+  100: fork() = 101 (0x65)
+  101: dup(5) = 6 (0x6)
+  101: fstatat(6,"a/../../b",0x7fffffffe8b0,0x0) = 0 (0x0)
+  100: fstatat(4,"a/../b/./..",0x7fffffffe8b0,0x0) = 0 (0x0)
+  100: openat(4,"a/..b/...",O_RDONLY,00) = 7 (0x7)
+  100: cap_rights_limit(4,{ CAP_LOOKUP,CAP_READ }) = 0 (0x0)
+  100: readlinkat(9,"../a",0x7fffffffe8b0,1) = 1 (0x1)
+  100: recvmsg(3,{NULL,0,[{"a",1}],1,{{level=SOL_SOCKET,type=SCM_RIGHTS,data={10}}},20,0},0) = 1 (0x1)
+  100: readlinkat(10,"../a",0x7fffffffe8b0,1) = 1 (0x1)
+  100: openat(4,"../b",O_RDONLY,00) = 8 (0x8)
+  100: openat(4,"../b",O_RDONLY,00) ERR#93 'Capabilities insufficient'
+  100: funlinkat(0x5,"..//a",0xffffff38,0x0) = 0 (0x0)
+""", """
+100 @start(0,1,2,3)
+100 @foreign(3)
+100 open("d",O_RDONLY|O_DIRECTORY) RET 4
+100 openat(3,"e",O_RDONLY|O_DIRECTORY) RET 5
+100 @foreign(5)
+100 fork() RET 101
+101 dup(5) RET 6
+101 @foreign(6)
+101 fstatat(6,"a/../../b",0) RET 0
+101 @global()
+100 fstatat(4,"a/../b/./..",0) RET 0
+100 openat(4,"a/..b/...",O_RDONLY) RET 7
+100 cap_rights_limit(4,CAP_READ|CAP_LOOKUP) RET 0
+100 readlinkat(9,"../a") RET 1
+100 @global()
+100 recvmsg(3) RET 1
+100 @foreign(10)
+100 readlinkat(10,"../a") RET 1
+100 @global()
+100 openat(4,"../b",O_RDONLY) RET 8
+100 @global()
+100 openat(4,"../b",O_RDONLY) RET -1 errno 93
+100 funlinkat(0x5,"..//a",0xffffff38,0x0) RET 0
+100 @uses(5,CAP_LOOKUP|CAP_UNLINKAT)
+100 @global()
+""", ["--start", "0,1,2,3"], ["line 12: openat succeeded by a path that leaves a limited directory"], findings="""
+14 100 readlinkat closed 9
+findings 1
+""")
+
+demands("hidden descriptors, and lines that are left out", f"""
+  100: pipe2(0x7fffffffe8b0,0) = 0 (0x0)
+  100: poll({{ 3/POLLIN -1/POLLIN }},2,-1) = 1 (0x1)
+  100: openat(4,"{LONG}xxx",O_RDWR,00) = 5 (0x5)
+  100: chdir("{LONG}{LONG}") = 0 (0x0)
+  100: kevent(6,0x0,0,{{ 4,EVFILT_READ,EV_EOF(1),0,0,0x0 }},1,0x0) = 1 (0x1)
+  100: execve("/bin/b",[ "b" ],0x7fffffffe8c0) EJUSTRETURN
+  100: select(4,{{ 3 }},0x0,NULL,{{ 1.000000 }}) = 1 (0x1)
+""", """
+100 @start()
+100 @foreign(3)
+100 @foreign(4)
+100 @foreign(6)
+100 poll({ 3/POLLIN -1/POLLIN },2,-1) RET 1
+100 @uses(3,CAP_EVENT)
+100 @uses(4,CAP_READ|CAP_WRITE|CAP_SEEK|CAP_LOOKUP)
+100 @foreign(5)
+100 @global()
+100 @uses(6,CAP_KQUEUE_EVENT)
+100 fcntl(3,F_SETFD,0) RET 0
+100 execve("/bin/b") RET 0
+100 select(4,{ 3 },0x0,NULL,{ 1.000000 }) RET 1
+100 @uses(3,CAP_EVENT)
+""", ["--start", ""])
+
+demands("what can't be read is counted", """
+  100: poll(0x7fffffffe8b0,2,-1) = 1 (0x1)
+  100: kevent(4,{ 3,EVFILT_READ,EV_ADD,0,0,0x0 },2,0x0,0,0x0) = 0 (0x0)
+  100: select(8,0x7fffffffe8b0,0x0,0x0,0x0) = 1 (0x1)
+  100: aio_read(0x7fffffffe8b0) = 0 (0x0)
+  100: aio_read(0x7fffffffe8b0) = 0 (0x0)
+  100: aio_read(0x7fffffffe8b0) ERR#35 'Resource temporarily unavailable'
+  100: vfork() = 101 (0x65)
+  100: getpid() = 100 (0x64)
+  100: cpuset_getaffinity(CPU_LEVEL_WHICH,CPU_WHICH_TID,100123,32,{ 0x1 }) = 0 (0x0)
+""", """
+100 poll(0x7fffffffe8b0,2,-1) RET 1
+100 kevent(4,{ 3,EVFILT_READ,EV_ADD,0,0,0x0 },2,0x0,0,0x0) RET 0
+100 select(8,0x7fffffffe8b0,0x0,0x0,0x0) RET 1
+100 aio_read(0x7fffffffe8b0) RET 0
+100 aio_read(0x7fffffffe8b0) RET 0
+100 aio_read(0x7fffffffe8b0) RET -1 errno 35
+100 vfork() RET 101
+100 getpid() RET 100
+100 cpuset_getaffinity(CPU_LEVEL_WHICH,CPU_WHICH_TID,100123,32,{ 0x1 }) RET 0
+""", (), heading="# kernel 14; not judged: aio_read 2, cpuset_getaffinity 1, kevent 1, poll 1, select 1, vfork 1, first at line 1 "
+        "of the recording")
+MANY = [f"call_{place:02d}" for place in range(14)]
+CALLS = "  100: getpid() = 100 (0x64)\n" + "".join(f"  100: {name}(0x0) = 0 (0x0)\n" for name in MANY + MANY[3:])
+demands("the most frequent names", CALLS, re.sub(r"  100: (.*) = ([0-9]*) .*", r"100 \1 RET \2", CALLS), (),
+        heading="# kernel 14; not judged: " + ", ".join(f"{name} 2" for name in MANY[3:]) + ", call_00 1 and 2 others, first at line 2 of "
+        "the recording")
+LONG_NAME = "c" * 990
+demands("a name that doesn't fit the first line", f"  100: {LONG_NAME}(0x0) = 0 (0x0)\n", f"100 {LONG_NAME}(0x0) RET 0\n", (),
+        heading="# kernel 14; not judged: 1 other, first at line 1 of the recording")
+
+
+case("a FIFO that mknodat makes", """
+  100: mknodat(3,"f",010644,0x0) = 0 (0x0)
+  100: mknodat(3,"f",0x11a4,0x0) = 0 (0x0)
+  100: mknodat(3,"f",S_IFIFO|0644,0) ERR#93 'Capabilities insufficient'
+  100: mknodat(3,"c",020644,0x0) = 0 (0x0)
+  100: mknodat(3,"c",0x21a4,0x0) = 0 (0x0)
+""", """
+100 mkfifoat(3,"f") RET 0
+100 mkfifoat(3,"f") RET 0
+100 mkfifoat(3,"f") RET -1 errno 93
+100 mknodat(3,"c") RET 0
+100 mknodat(3,"c") RET 0
+""")
+
+
+# ---- The table of what kernels demand
+
+RELEASES = {"12": (12, 2, 0), "13": (13, 2, 4), "14": (14, 0, 0), "15": (15, 0, 0)}
+
+# For the rows of the table with these arguments, or one call's: what truss prints between the brackets, the descriptors of
+# the row's arguments, and whether capability mode forbids it where the row says that it depends. Each condition that a row
+# without a form of its own has is true there.
+AT = {"DIR": 3, "FROMDIR": 3, "TODIR": 4}
+EXAMPLES = {
+    "..": [("0x0", {}, False)], "": [("", {}, False)], "PATH,..": [('"a",0x0', {}, False)],
+    "HANDLE,..": [("0x0", {}, False)], "FD,..": [("0x3,0x0,0x0", {"FD": 3}, False)],
+    "FD": [("0x3", {"FD": 3}, False)], "MQ,..": [("0x3,0x0", {"MQ": 3}, False)],
+    "FD,SIG": [("3,SIGTERM", {"FD": 3}, False)], "S,..": [("0x3,0x0,0x0,0x0,0x0", {"S": 3}, False)],
+    "ID,..": [("0x3", {}, False)], "ID": [("0x3", {}, False)], "NAME": [('"/a"', {}, False)],
+    "NAME,..": [('"/a",0x2,0600', {}, True), ("SHM_ANON,O_RDWR,00", {}, False)],
+    "AIOCB": [("0x7fffffffe8b0", {}, False)], "OP,AIOCB": [("0x1,0x7fffffffe8b0", {}, False)],
+    "PID,..": [("101,0x0", {}, False)], "MODE,LIST,..": [("0x0,0x7fffffffe8b0,0x1,0x0", {}, False)],
+    "NODE,..": [('"kern.ostype",2,0x0,0x0,0x0,0', {}, False)],
+    "PID,SIG": [("101,SIGTERM", {}, True), ("0,SIGTERM", {}, True), ("100,SIGTERM", {}, False)],
+    "FIB": [("0x1", {}, False)],
+    "LEVEL,WHICH,ID,..": [
+        ("CPU_LEVEL_WHICH,CPU_WHICH_PID,101,32,0x0", {}, True), ("0x3,0x2,0xffffffffffffffff,0x20,0x0", {}, False),
+        ("CPU_LEVEL_CPUSET,CPU_WHICH_PID,-1,32,0x0", {}, True),
+        ("CPU_LEVEL_WHICH,CPU_WHICH_PID,100,32,0x0", {}, False),
+    ],
+    "{ FD/EVENTS .. },N,..": [("{ 3/POLLIN -1/POLLIN 5/POLLIN|POLLOUT },3,-1", {"FD": (3, 5)}, False)],
+    "N,{ FDS },{ FDS },{ FDS },..": [("6,{ 3 },{ 3 5 },0x0,0x0", {"FD": (3, 5)}, False)],
+    "KQ,CHANGES,N,EVENTS,M,TIMEOUT": [
+
+        ("6,{ 3,EVFILT_READ,EV_ADD,0,0,0x0 5,EVFILT_VNODE,EV_ADD|EV_CLEAR,NOTE_DELETE|NOTE_WRITE,0,0x0 },2,{ },4,0x0",
+         {"KQ": 6, "ident": (3, 5)}, False),
+    ],
+    "IN,INOFF,OUT,OUTOFF,..": [("0x3,0x7fffffffe8b0,0x4,0x7fffffffe8b8,0x10,0x0", {"IN": 3, "OUT": 4}, False)],
+    "DOMAIN,TYPE,PROTOCOL": [
+        ("PF_INET,SOCK_RAW,0", {}, True), ("PF_ROUTE,SOCK_STREAM,0", {}, True), ("PF_LOCAL,SOCK_RAW,0", {}, False),
+        ("PF_INET6,SOCK_DGRAM|SOCK_CLOEXEC,0", {}, False),
+    ],
+    "DIR,S,..": [
+        ('0x3,5,{ AF_LOCAL "a" },106', {"DIR": 3, "S": 5}, False),
+        ('AT_FDCWD,5,{ AF_LOCAL "a" },106', {"S": 5}, True),
+    ],
+    "DIR,PATH,..": [('3,"a",0x0,0x0', AT, False)],
+    "DIR,PATH,FD,FLAG": [
+        ('0x3,"a",0x5,0x0', {"DIR": 3, "FD": 5}, False), ('0x3,"a",0xffffff38,0x0', AT, False),
+        ('AT_FDCWD,"a",-200,0', {}, True),
+    ],
+    "DIR,PATH,MODE,DEV": [('3,"a",020644,0', AT, False)],
+    "DIR,PATH,FLAGS,..": [('3,"a",O_RDWR|O_CREAT|O_TRUNC|O_SYNC|O_EXLOCK,0600', AT, False)],
+    "DIR,PATH,O_EXEC,..": [('3,"a",O_EXEC', AT, False)], "DIR,PATH,O_PATH,..": [('3,"a",O_PATH', AT, False)],
+    "DIR,PATH,O_WRONLY|O_RDWR without O_APPEND and O_TRUNC,..": [
+        ('3,"a",O_WRONLY', AT, False), ('3,"a",O_RDWR|O_CREAT,0600', AT, False),
+    ],
+    "DIR,PATH,O_SEARCH|O_DIRECTORY,..": [('3,"a",O_SEARCH|O_DIRECTORY', AT, False)],
+    "DIR,a path that leaves DIR (.., a link),..": [('3,"../a",O_RDONLY', AT, True)],
+    "TARGET,DIR,PATH": [('"a",3,"b"', AT, False)], "FROMDIR,FROM,TODIR,TO,FLAGS": [('3,"a",4,"b",0', AT, False)],
+    "FROMDIR,FROM,TODIR,TO": [('3,"a",4,"b"', AT, False)],
+    "FD,S,..": [("0x3,0x5,0x0,0x10,0x0,0x0,0x0", {"FD": 3, "S": 5}, False)],
+    "S,{msg_name},..": [("3,{{ AF_INET 10.0.0.1:53 },16,[{\"a\",1}],1,{},0,0},0", {"S": 3}, False)],
+    "S,{msg_name is null},..": [('3,{NULL,0,[{"a",1}],1,{},0,0},0', {"S": 3}, False)],
+    "S,..,NULL,0": [('3,"a",1,0,NULL,0', {"S": 3}, False)],
+    "S,..,DEST,LEN": [('3,"a",1,0,{ AF_INET 10.0.0.1:53 },16', {"S": 3}, False)],
+    "FD,RIGHTS": [("3,{ CAP_READ }", {"FD": 3}, False)], "FD,NEW": [("3,5", {"FD": 3}, False)],
+    "FD,LENGTH": [("3,0x0", {"FD": 3}, False)],
+    "FD,COMMAND,..": [
+        ("3,SIOCGIFFLAGS,0x0", {"FD": 3}, True), ("3,SIOCATMARK,0x0", {"FD": 3}, False),
+        ("3,FIONREAD,0x0", {"FD": 3}, False),
+    ],
+    "FDP,FLAGS": [("0x7fffffffe8dc,PD_DAEMON", {}, True), ("{ 5 },0x1", {}, True), ("{ 5 },PD_CLOEXEC", {}, False)],
+    "ADDR,LEN,PROT,FLAGS,FD,OFF": [("0x0,4096,PROT_READ|PROT_WRITE|PROT_EXEC,MAP_SHARED,3,0x0", {"FD": 3}, False)],
+    "FLAGS": [("0x2", {}, False)], "VERSION,FD,..": [("0x0,0x3,0x7fffffffe8b0", {"FD": 3}, False)],
+    ("sctp_generic_sendmsg", "S,.."): [("3,0x0,1,{ AF_INET 10.0.0.1:53 },16,0x0,0", {"S": 3}, False)],
+    ("sctp_generic_sendmsg_iov", "S,.."): [("3,0x0,1,{ AF_INET 10.0.0.1:53 },16,0x0,0", {"S": 3}, False)],
+    ("accept4", "S,.."): [("3,0x0,0x0,SOCK_CLOEXEC", {"S": 3}, False)],
+    ("accept", "S,.."): [("3,0x0,0x0", {"S": 3}, False)],
+}
+for commands in ("F_SETLK_REMOTE", "F_OGETLK|F_OSETLK|F_OSETLKW", "F_GETLK|F_SETLK|F_SETLKW",
+                 "F_GETFL|F_SETFL|F_GETOWN|F_SETOWN",
+                 "F_RDAHEAD|F_READAHEAD|F_ADD_SEALS|F_GET_SEALS|F_ISUNIONSTACK|F_KINFO",
+                 "F_DUPFD|F_DUPFD_CLOEXEC|F_DUP2FD|F_DUP2FD_CLOEXEC|F_GETFD|F_SETFD"):
+    EXAMPLES[f"FD,{commands},.."] = [(f"3,{command},8", {"FD": 3}, False) for command in commands.split("|")]
+ANSWERS = {
+    "open": 8, "accept": 8, "accept4": 8, "dup": 8, "openat": 8, "socket": 8, "kqueue": 8, "shm_open": 8, "fhopen": 8,
+    "mq_open": 8, "kmq_open": 8, "fcntl": 8, "dup2": 5, "fork": 0, "vfork": 0, "pdfork": 101, "poll": 1, "pipe": 0,
+}
+NOT_SHOWN = set("aio_read aio_write aio_readv aio_writev aio_fsync lio_listio".split())  # the descriptor is in memory
+SINCE_13 = ("socket", "socketpair", "ioctl")  # 12.2 refuses none of them
+RULED = {"close", "closefrom", "dup", "dup2", "cap_enter", "cap_rights_limit", "cap_ioctls_limit", "cap_fcntls_limit"}
+
+
+def has_row(versions, release):
+    """Whether a row is about a release."""
+    if versions.startswith("not"):
+        return False
+    ends = re.match(r"([0-9p.-]+?)-(?:([0-9.p-]+))?(?: .*)?$", versions).groups("")
+    first, last = (tuple(map(int, re.findall("[0-9]+", end))) for end in ends)
+    return first <= RELEASES[release] and (not last or RELEASES[release][: len(last)] <= last)
+
+
+def wanted_needs(row, descriptors):
+    """The rights that a row says for these descriptors. Each part of it is an argument's, and its conditions hold."""
+    needs = {}
+    for part in row["rights"].split("; ") if row["rights"] != "-" else []:
+        operand, _, rights = re.sub("^each ", "", re.sub("^ident of [^:]*", "ident", part)).partition(":")
+        names = re.findall("CAP_[A-Z_]+", rights.split(",")[0].split(" if ")[0]) if "S_IFIFO" not in rights else []
+        fds = descriptors.get(operand, ())
+        for fd in fds if isinstance(fds, tuple) else (fds,):
+            needs.setdefault(fd, set()).update(names)
+    return needs
+
+
+def beyond_the_rules(row, needs):
+    """What the program doesn't judge by the call's own line: a row of a call with a form says mostly what its rule says."""
+    if row["call"] in RULED or row["call"] not in converter.FORMS:
+        return {} if row["call"] in RULED else needs
+    if row["call"] == "fcntl":
+        return needs if re.search("F_SETLK_REMOTE|F_OGETLK|F_KINFO", row["arguments"]) else {}
+    if row["call"] == "openat" and "without" in row["arguments"]:
+        return needs
+    return {4: {"CAP_UNLINKAT"}} if row["call"] == "renameat" else {}
+
+
+def is_judged_forbidden(row):
+    """Whether the program judges by the call's own line that capability mode forbids it."""
+    return row["call"] in converter.FORMS and row["call"] not in (
+        "bind", "connect", "fchdir", "mq_open", "fhopen", "sendto", "sendmsg") and row["class"] == "forbidden"
+
+
+def markers_of(line, kernel, failed=False):
+    """The converter, and the markers of needs that it writes after a call."""
+    recording = f"  100: getpid() = 100 (0x64)\n  100: {line}\n"
+    made = converter.convert(recording.encode(), Silent(), kernel=int(kernel), failed=failed)
+    return made, [each for each in made.trace() if MARKERS.fullmatch(each)]
+
+
+def spelled_uses(needs):
+    spelled = {fd: converter.spelled_rights({right[4:] for right in needs[fd]}) for fd in sorted(needs)}
+    return [f"100 @uses({fd},{rights})" for fd, rights in spelled.items()]
+
+
+def said_of(row, kernel, example):
+    """The markers that a kernel's row wants after a call, and those that are written."""
+    args, descriptors, forbids = example
+    answer = ANSWERS.get(row["call"], 0)
+    pair = ",{ 8, 9 }" if row["call"] in ("socketpair", "pipe2") else ""
+    made, markers = markers_of(f"{row['call']}({args}{pair}) = {answer} (0x{answer:x})", kernel)
+    wanted = []
+    if float(row["sureness"]) >= 0.8 and row["call"] not in NOT_SHOWN:
+        wanted = spelled_uses(beyond_the_rules(row, wanted_needs(row, descriptors)))
+        if forbids if row["class"].startswith("depends") else row["class"] == "forbidden" and not is_judged_forbidden(row):
+            wanted.append("100 @global()")
+    return wanted, markers, made
+
+
+def table_of_needs():
+    """Each row of tests/kernel.tsv, for each release: the markers are those that the row says."""
+    global count
+    with open(os.path.join(HERE, "kernel.tsv")) as file:
+        heads, *rows = [line.rstrip("\n").split("\t") for line in file]
+    names = ["call", "arguments", "rights", "class", "versions", "source", "sureness"]
+    if heads[0] != "call" or heads[-1] != "sureness":
+        fault("tests/kernel.tsv", "heads", names, heads)
+    rows = [dict(zip(names, row)) for row in rows]
+    for kernel in KERNELS:
+        for row in rows:
+            if has_row(row["versions"], kernel):
+                check_row(row, kernel)
+    unheard = converter.DEMANDED - {row["call"] for row in rows}
+    if unheard:
+        fault("tests/kernel.tsv", "calls of the converter that it lacks", "none", unheard)
+
+
+def check_row(row, kernel):
+    global count
+    examples = EXAMPLES.get((row["call"], row["arguments"])) or EXAMPLES[row["arguments"]]
+    if row["call"] in SINCE_13 and kernel == "12":
+        examples = [(args, fds, False) for args, fds, _ in examples]
+    for example in examples:
+        count += 1
+        wanted, markers, made = said_of(row, kernel, example)
+        if wanted != markers:
+            fault(f"kernel {kernel}: {row['call']}({example[0]})", "markers", wanted, f"{markers}, by {row}")
+        is_doubtful = float(row["sureness"]) < 0.8 or row["call"] in NOT_SHOWN or row["call"].startswith("__sysctl")
+        is_counted = is_doubtful and (row["call"] not in converter.FORMS or row["call"] == "vfork")
+        if is_counted != bool(made.unjudged):
+            fault(f"kernel {kernel}: {row['call']}", "counted", is_counted, made.unjudged)
+        if not is_doubtful and "leaves" not in row["arguments"] and "without" not in row["arguments"]:
+            check_failed(row, kernel, example)
+
+
+def check_failed(row, kernel, example):
+    """Where the call failed late and that is asked for, all rights of the row are written, those of the rules too."""
+    args, descriptors, _ = example
+    wanted = spelled_uses(wanted_needs(row, descriptors)) if row["call"] != "cap_rights_limit" else []
+    markers = markers_of(f"{row['call']}({args}) ERR#35 'Resource temporarily unavailable'", kernel, True)[1]
+    if wanted != markers:
+        fault(f"kernel {kernel}: {row['call']}({example[0]})", "markers of a call that failed", wanted, f"{markers}, by {row}")
+
+
 # ---- Options, and what isn't there
 
 
@@ -1379,7 +2154,7 @@ def says(name, recording, said, options=()):
     """All that is said of a recording."""
     global count
     count += 1
-    got = converted(recording, options)[2]
+    got = converted(recording, ["--plain", *options])[2]
     if got != said.removeprefix("\n"):
         fault(name, "said", said, got)
 
@@ -1456,7 +2231,8 @@ for line in guide:
         inside = line[3:] or None
     elif inside:
         blocks[inside] = blocks.get(inside, "") + line + "\n"
-case("docs/RECORDING.md", blocks["tally.truss"], blocks["tally.trace"], ["--start", "0,1,2"], findings=blocks["tally.check"])
+heading, _, tally = blocks["tally.trace"].partition("\n")
+demands("docs/RECORDING.md", blocks["tally.truss"], tally, findings=blocks["tally.check"], heading=heading)
 save(TRACE, blocks["tally.trace"])
 said = subprocess.run([PROGRAM, "limits", TRACE, "8"], capture_output=True).stdout.decode()
 if said != blocks["tally.limits 8"]:
@@ -1479,16 +2255,17 @@ for words in (["--output", TRACE], ["-o", TRACE], ["-", "-o", TRACE], ["-o", TRA
     done = subprocess.run([CONVERTER, *words], input=b" 5: close(3) = 0 (0x0)\n", capture_output=True, timeout=60)
     with open(TRACE, "rb") as file:
         got = done.returncode, done.stdout, done.stderr, file.read()
-    if got != (0, b"", b"truss2trace: 1 call written\n", b"5 close(3) RET 0\n"):
+    if got != (0, b"", b"truss2trace: 1 call written\n", b"# kernel 14\n5 close(3) RET 0\n"):
         fault(f"standard input {words}", "trace", "5 close(3) RET 0", got)
 save(RECORDING, " 5: close(3) = 0 (0x0)\n" * 4)
-plan = argparse.Namespace(recording=RECORDING, output=TRACE, start=None, pid=None, strict=False, verbose=False)
+plan = argparse.Namespace(recording=RECORDING, output=TRACE, start=None, pid=None, strict=False, verbose=False, kernel=14,
+                          plain=False, failed=False)
 most, converter.MOST_LINES = converter.MOST_LINES, 3
 with contextlib.redirect_stderr(io.StringIO()) as said:
     status = converter.run(plan)
 with open(TRACE, "rb") as file:
     got = most, status, file.read(), "full" in said.getvalue()
-if got != (1_000_000, 2, b"5 close(3) RET 0\n" * 3, True):
+if got != (1_000_000, 2, b"# kernel 14\n" + b"5 close(3) RET 0\n" * 3, True):
     fault("a full trace", "trace", "three lines", got)
 
 
@@ -1523,6 +2300,8 @@ class Silent(converter.Notes):
         pass
 
 
+table_of_needs()
+
 traces, places = [], []
 for seed in range(MUTANTS):
     chance = random.Random(seed)
@@ -1542,195 +2321,6 @@ if said.startswith("refused"):
     print(f"random recording {places[line]}: {traces[line]!r}")
 if len(traces) < 10 * MUTANTS // 2:
     fault("random recordings", "lines", "more", len(traces))
-
-
-# ---- Random programs under a small kernel, as truss would record them: whatever they do, the kernel answers rightly
-
-ORDER = "READ WRITE SEEK FSTAT LOOKUP IOCTL".split()
-EVERY = frozenset(ORDER)
-NEEDS = {"read": "READ", "write": "WRITE", "lseek": "SEEK", "fstat": "FSTAT"}
-ARGS = {"read": ',0x7fffffffe8b0,1', "write": ',"a",1', "lseek": ",0x0,SEEK_SET", "fstat": ",{ mode=-rw-r--r-- ,inode=4 }"}
-
-
-KINDS = {"close": ["close"], "make": ["open", "openat", "socket"], "use": list(NEEDS), "fork": ["fork", "pdfork"]}
-SWAPPED = {("close", "make"), ("use", "close"), ("fork", "close"), ("close", "fork"), ("make", "fork"), ("fork", "make")}
-
-
-class Kernel:
-    """Processes with descriptors: a descriptor has its rights, whether an exec closes it, and whether a child has it."""
-
-    def __init__(self, chance, rights):
-        self.chance, self.lines, self.last = chance, [], 100
-        self.tables, self.modes, self.threads = {100: {fd: (rights(), False, True) for fd in range(3)}}, {100: False}, set()
-
-    def say(self, pid, call, answer=None, errno=None):
-        names = {9: "Bad file descriptor", 93: "Capabilities insufficient", 94: "Not permitted in capability mode"}
-        result = f"ERR#{errno} '{names[errno]}'" if errno else f"= {answer} (0x{answer:x})"
-        self.lines.append(f"{pid:5d}: {call} {result}")
-
-    def new(self, pid, rights=EVERY, closes=False, stays=True):
-        fd = min(set(range(200)) - set(self.tables[pid]))
-        self.tables[pid][fd] = (rights, closes, stays)
-        return fd
-
-    def some(self):
-        return frozenset(right for right in ORDER if self.chance.random() < 0.5)
-
-    def step(self):
-        pid = self.chance.choice(list(self.tables))
-        fd = self.chance.randrange(10)
-        kind = self.chance.choice((self.use, self.use, self.use, self.make, self.make, self.copy, self.change, self.hide, self.fork))
-        kind(pid, self.tables[pid], fd)
-        if pid in self.threads and len(self.lines) > 1:
-            self.swap(pid, *self.lines[-2:])
-
-    def swap(self, pid, first, second):
-        """Two calls of threads in one process may be printed in the other order. That of a limit and a use isn't made up for."""
-        kinds = []
-        for line in (first, second):
-            name = re.search(r": (\w+)\(", line)
-            made = name and "ERR#" not in line and line.startswith(f"{pid:5d}: ")
-            kinds.append(next((kind for kind, names in KINDS.items() if made and name[1] in names), None))
-        if tuple(kinds) in SWAPPED and self.chance.random() < 0.7:
-            self.lines[-2:] = second, first
-
-    def use(self, pid, table, fd):
-        name = self.chance.choice(list(NEEDS))
-        errno = 9 if fd not in table else 93 if NEEDS[name] not in table[fd][0] else None
-        self.say(pid, f"{name}({fd}{ARGS[name]})", 1, errno)
-
-    def make(self, pid, table, fd):
-        closes = self.chance.random() < 0.3
-        flag = "|O_CLOEXEC" if closes else ""
-        what = self.chance.randrange(6)
-        if what == 0 and fd in table:
-            good = {"LOOKUP", "READ"} <= table[fd][0]
-            made = self.new(pid, table[fd][0], closes) if good else 0
-            self.say(pid, f'openat({fd},"a",O_RDONLY{flag},00)', made, None if good else 93)
-        elif what <= 2 and self.modes[pid]:
-            self.say(pid, f'open("a",O_RDONLY{flag},00)', 0, 94)
-        elif what == 1 and fd in table:
-            self.say(pid, f'open("/dev/fd/{fd}",O_RDONLY{flag},00)', self.new(pid, table[fd][0], closes))
-        elif what <= 3:
-            self.say(pid, "kqueue()", self.new(pid, EVERY, False, False)) if closes else self.say(
-                pid, "socket(PF_INET,SOCK_STREAM,0)", self.new(pid))
-        elif what == 4:
-            self.say(pid, f"pipe({{ {self.new(pid)}, {self.new(pid)} }})", 0)
-        else:
-            self.say(pid, f'openat(AT_FDCWD,"/a",O_RDWR{flag},00)', 0, 94) if self.modes[pid] else self.say(
-                pid, f'openat(AT_FDCWD,"/a",O_RDWR{flag},00)', self.new(pid, EVERY, closes))
-
-    def copy(self, pid, table, fd):
-        to = self.chance.randrange(10)
-        if fd not in table:
-            self.say(pid, f"dup({fd})", 0, 9)
-        elif to % 3 == 0:
-            self.say(pid, f"dup({fd})", self.new(pid, table[fd][0], False, table[fd][2]))
-        elif to % 3 == 1:
-            self.say(pid, f"fcntl({fd},F_DUPFD_CLOEXEC,0x0)", self.new(pid, table[fd][0], True, table[fd][2]))
-        else:
-            if fd != to:
-                table[to] = (table[fd][0], False, table[fd][2])
-            self.say(pid, f"dup2({fd},{to})", to)
-
-    def change(self, pid, table, fd):
-        what = self.chance.randrange(9)
-        if what == 0:
-            self.modes[pid] = self.chance.random() < 0.3 or self.modes[pid]
-            self.say(pid, "cap_enter()", 0) if self.modes[pid] else None
-        elif what == 1:
-            for other in [other for other in table if other >= fd]:
-                del table[other]
-            self.say(pid, f"close_range({fd},4294967295,0)", 0)
-        elif what == 2:
-            for other in [other for other in table if fd <= other <= fd + 3]:
-                table[other] = (table[other][0], True, table[other][2])
-            self.say(pid, f"close_range({fd},{fd + 3},CLOSE_RANGE_CLOEXEC)", 0)
-        elif fd not in table:
-            self.say(pid, f"close({fd})", 0, 9)
-        elif what in (3, 4):
-            asked = self.some()
-            good = asked <= table[fd][0]
-            if good:
-                table[fd] = (asked, *table[fd][1:])
-            self.say(pid, f"cap_rights_limit({fd},{{ {','.join('CAP_' + right for right in sorted(asked))} }})", 0, None if good else 93)
-        elif what == 5 and "IOCTL" not in table[fd][0]:
-            self.say(pid, f"ioctl({fd},FIOCLEX,0x0)", 0, 93)
-        elif what in (5, 6):
-            closes = self.chance.random() < 0.5
-            table[fd] = (table[fd][0], closes, table[fd][2])
-            name = f"ioctl({fd},{'FIOCLEX' if closes else 'FIONCLEX'},0x0)"
-            self.say(pid, name if what == 5 else f"fcntl({fd},F_SETFD,{'FD_CLOEXEC' if closes else '0'})", 0)
-        else:
-            del table[fd]
-            self.say(pid, f"close({fd})", 0)
-
-    def hide(self, pid, table, fd):
-        what = self.chance.randrange(7)
-        if what in (1, 3, 5) and not {"READ", "IOCTL"} <= table.get(fd, [EVERY - EVERY])[0]:
-            self.use(pid, table, fd)
-        elif what == 0:
-            self.new(pid), self.new(pid)
-            self.say(pid, "pipe2(0x7fffffffe8b0,0)", 0)
-        elif what == 1:
-            self.new(pid, self.some(), self.chance.random() < 0.5)
-            self.say(pid, f"recvmsg({fd},0x7fffffffe8a0,0)", 1)
-        elif what == 2:
-            self.say(pid, "_umtx_op(0x0,UMTX_OP_SHM,0x1,0x80064e000,0x0)", self.new(pid, self.some(), True))
-        elif what == 3:
-            self.new(pid, self.some())
-            self.say(pid, f"ioctl({fd},CRIOGET,0x7fffffffe8b0)", 0)
-        elif what == 4:
-            self.say(pid, "unheard_of(1)", self.new(pid, self.some()))
-        elif what == 5:
-            made = self.new(pid, self.some())
-            data = f"{{level=SOL_SOCKET,type=SCM_RIGHTS,data={{{made}}}}}"
-            self.say(pid, f'recvmsg({fd},{{NULL,0,[{{"a",1}}],1,{{{data}}},20,0}},0)', 1)
-        else:  # a line that can't be read
-            self.new(pid, self.some())
-            self.lines.append(f"{pid:5d}: open(")
-
-    def fork(self, pid, table, fd):
-        what = self.chance.randrange(8)
-        if what == 0 and not self.modes[pid]:
-            self.tables[pid] = {fd: (rights, False, stays) for fd, (rights, closes, stays) in table.items() if not closes}
-            self.threads.discard(pid)
-            self.say(pid, 'execve("/bin/b",[ "b" ],0x7fffffffe8c0)', 0)
-        elif what == 1 and len(self.tables) > 1:
-            del self.tables[pid]
-            self.lines.append(f"{pid:5d}: process exit, rval = 0")
-        elif what == 4:
-            self.threads.add(pid)
-            self.say(pid, "thr_new(0x7fffffffe8b0,104)", 0)
-        elif what in (2, 3) and len(self.tables) < 5:
-            self.last += 1
-            self.tables[self.last] = {fd: each for fd, each in table.items() if each[2]}
-            self.modes[self.last] = self.modes[pid]
-            if what == 3:
-                self.new(pid)
-            self.say(pid, "fork()" if what == 2 else "pdfork(0x7fffffffe8dc,0x0)", self.last)
-
-
-programs, traces, places = [], [], []
-for seed in range(PROGRAMS):
-    chance = random.Random(seed)
-    begun = seed % 2 == 0
-    kernel = Kernel(chance, (lambda: EVERY) if begun else (lambda: frozenset(right for right in ORDER if chance.random() < 0.5)))
-    for _ in range(chance.randrange(100)):
-        kernel.step()
-    kernel.lines += [f"{pid:5d}: process exit, rval = 0" for pid in kernel.tables]
-    programs.append("".join(line + "\n" for line in kernel.lines))
-    traces.extend(converter.convert(programs[-1].encode(), Silent(), [0, 1, 2] if begun else None).trace())
-    places.extend([seed] * (len(traces) - len(places)))
-accepted("random programs", "".join(line + "\n" for line in traces))
-for profile in ("1", "2"):
-    found = report_of("".join(line + "\n" for line in traces), profile)[1].splitlines()
-    for finding in found[:-1]:
-        place = int(finding.split(" ")[0]) - 1
-        seed = places[place]
-        trace = "\n".join(traces[place - 100 : place + 1])
-        fault(f"random program {seed}", f"profile {profile}, {finding}", "no finding", f"{programs[seed]}\n{trace}")
-count += PROGRAMS
 
 print(f"{count} cases: {'all passed' if not wrong else f'{wrong} answers differ'}")
 sys.exit(1 if wrong else 0)

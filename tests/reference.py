@@ -141,6 +141,9 @@ FORMS |= {
     "renameat": [directory, path, directory, path],
     "linkat": [directory, path, directory, path, flags],
     "@foreign": [descriptor],
+    "@uses": [descriptor, rights],
+    "@refused": [descriptor, rights],
+    "@global": [],
 }
 SPECIAL = ("sendto", "sendmsg", "fcntl", "@start")
 
@@ -189,6 +192,10 @@ MAKES_TWO = "pipe pipe2 socketpair".split()
 COPIES_TO = ("F_DUP2FD", "F_DUP2FD_CLOEXEC")
 COPIES = ("F_DUPFD", "F_DUPFD_CLOEXEC")
 MOST = 2**64 - 1
+
+
+# A marker of needs speaks of a call, and is judged as if that had this answer.
+JUDGED_AS = {"@uses": [], "@global": [], "@refused": 93}
 
 
 def answer(name, given, text):
@@ -245,7 +252,7 @@ def pieces(text):
 
 @functools.lru_cache(100_000)
 def read(line):
-    """The pid, the name, the arguments and the answer, which a marker lacks."""
+    """The pid, the name, the arguments and the answer, which a marker lacks that isn't one of needs."""
     if len(line) > 1024:
         raise Refused(1)
     pid, space, rest = line.partition(" ")
@@ -269,7 +276,7 @@ def read(line):
     if name.startswith("@"):
         if after:
             raise Refused(2)
-        return pid, name, given, None
+        return pid, name, given, JUDGED_AS.get(name)
     if not after.startswith(" RET "):
         raise Refused(2)
     return pid, name, given, answer(name, given, after[5:])
@@ -278,7 +285,7 @@ def read(line):
 def written(line):
     """A line written out again: rights are named in the order of the table, and all else has one spelling."""
     _, name, given, _ = read(line)
-    if name != "cap_rights_limit":
+    if rights not in FORMS.get(name, []):
         return line
     before, after = line.split(",")[0], line.split(")")[1]
     return f"{before},{rights_text(given[1])}){after}"
@@ -344,8 +351,10 @@ def rule_at_directory(name, given):
 def rule(name, given):
     if name in AT_CALLS:
         return rule_at_directory(name, given)
-    if name in ("open", "link", "rename", "symlink") or name in BY_PATH:
+    if name in ("open", "link", "rename", "symlink", "@global") or name in BY_PATH:
         return "forbidden", []
+    if name in ("@uses", "@refused"):
+        return "either", [(given[0], given[1] - {NEVER_LIMITED}, None)]
     if name == "cap_rights_limit":
         return "allowed", [(given[0], given[1] - {NEVER_LIMITED}, given[1])]
     excuse = ...
@@ -527,7 +536,7 @@ class Processes:
         elif name == "close":
             if answer != 9:
                 self.put(pid, given[0], UNKNOWN if isinstance(answer, int) else CLOSED)
-        elif not isinstance(answer, int):
+        elif not isinstance(answer, int) and name not in JUDGED_AS:
             self.succeeded(pid, name, given, answer)
 
     def succeeded(self, pid, name, given, answer):
@@ -756,7 +765,7 @@ def source(profile, line, owner, place):
         return GIVEN
     if name in ("@foreign", "close"):
         return GIVEN if place == given[0] and not (name == "close" and answer == 9) else None
-    if isinstance(answer, int):
+    if isinstance(answer, int) or name in JUDGED_AS:
         return None
     if name in ("execve", "fexecve"):
         return (pid, place) if profile == 2 else GIVEN
@@ -965,6 +974,9 @@ def limits(text, asked=None, profile=1, start=""):
     lines, processes = [read(line) for line in trace], Processes(profile, known)
     if asked is None:
         return limits_of_made(processes, lines), 0
+    pid, name, _, _ = lines[asked - 1]
+    if name == "@start":
+        return f"# process {pid} before line {asked}\n# line {asked} is where process {pid} begins\n", 0
     for line in lines[: asked - 1]:
         processes.follow(*line)
     return limits_before(processes, lines[asked - 1 :], asked), 0

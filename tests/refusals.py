@@ -41,6 +41,7 @@ def main():
     binary, total = os.path.abspath(sys.argv[1]), 0
     with tempfile.TemporaryDirectory() as folder:
         library = compiler.library("refuse_each", folder)
+        compiler.loads(binary)
         tests = tests_of(binary)
         for test in tests:
             end, refused, answered = ran(binary, test, library)

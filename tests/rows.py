@@ -1047,6 +1047,18 @@ findings 4
 """,
 )
 row_from("a start ends where a process begins", "100 in closed\n", '100 @start()\n100 open("a",0) RET 3\n', "findings 0\n")
+CLOSED_6 = "1 100 cap_rights_limit closed 6\n"
+for cell, others, first in (("unknown", "closed", ""), ("closed", "unknown", CLOSED_6), ("ALL", "closed", "")):
+    row_from(
+        f"two limits of a descriptor that is {cell} in the start, and a call that lacks a right after them",
+        f"100 out {others} 6={cell}\n",
+        """
+100 cap_rights_limit(6,CAP_READ|CAP_SEEK) RET 0
+100 cap_rights_limit(6,CAP_READ) RET 0
+100 lseek(6) RET 0
+""",
+        f"{first}3 100 lseek missing 6 CAP_SEEK\nfindings {2 if first else 1}\n",
+    )
 LONGEST_START = "100 out closed 0=" + "CAP_READ|" * 110 + "CAP_READ|CAP_READ"  # 1,024 bytes
 LONG_START = "100 out closed 0=" + "CAP_READ|" * 110 + "CAP_READ|CAP_FSYNC"
 assert len(LONGEST_START) == 1024
@@ -1771,7 +1783,16 @@ insert 17 2101 cap_rights_limit(3,NONE) RET 0
 insert 18 2101 cap_rights_limit(4,NONE) RET 0
 insert 19 2101 cap_enter() RET 0
 """, 14)
-limits("nothing is known before a first line, and all comes anew", TALLY, "# process 2101 before line 1\ninsert 1 2101 cap_enter() RET 0\n", 1)
+limits("where the process begins", TALLY, "# process 2101 before line 1\n# line 1 is where process 2101 begins\n", 1)
+limits("before the process ends", TALLY, """
+# process 2102 before line 13
+insert 13 2102 cap_rights_limit(0,NONE) RET 0
+insert 14 2102 cap_rights_limit(1,NONE) RET 0
+insert 15 2102 cap_rights_limit(2,NONE) RET 0
+insert 16 2102 cap_rights_limit(3,NONE) RET 0
+insert 17 2102 cap_rights_limit(4,NONE) RET 0
+insert 18 2102 cap_enter() RET 0
+""", 13)
 limits("each descriptor that was made, the last first", TALLY, """
 insert 6 2102 cap_rights_limit(5,CAP_READ) RET 0
 insert 4 2101 cap_rights_limit(4,CAP_WRITE|CAP_FSYNC) RET 0
@@ -2072,6 +2093,582 @@ insert 5 1 cap_rights_limit(5,NONE) RET 0
 insert 4 1 cap_rights_limit(9,NONE) RET 0
 insert 3 1 cap_rights_limit(3,NONE) RET 0
 """)
+
+# ---- markers of needs: what a recorder knows of a call beside what the rules say
+
+KEVENT = """100 @start(0,1,2)
+100 socket(PF_INET|SOCK_STREAM) RET 3
+100 kqueue() RET 4
+100 cap_rights_limit(3,CAP_READ|CAP_WRITE) RET 0
+100 kevent(4,{ 3,EVFILT_READ,EV_ADD,0,0,0x0 },1,0x0,0,0x0) RET 0
+100 @uses(3,CAP_EVENT)
+100 @uses(4,CAP_KQUEUE_CHANGE)
+"""
+row("a change of a queue whose socket may not be waited for", KEVENT, "6 100 @uses missing 3 CAP_EVENT\nfindings 1\n")
+explain("what that rests on", KEVENT, 6, """
+6 100 @uses(3,CAP_EVENT)
+missing 3 CAP_EVENT
+3 4 100 cap_rights_limit(3,CAP_READ|CAP_WRITE) RET 0
+3 2 100 socket(PF_INET|SOCK_STREAM) RET 3
+""", 1)
+explain("what is used of a queue", KEVENT, 7, "7 100 @uses(4,CAP_KQUEUE_CHANGE)\n4 3 100 kqueue() RET 4\n")
+limits("a right that a later limit takes away, and a queue, which isn't known", KEVENT, """
+# process 100 before line 4
+insert 4 100 cap_rights_limit(0,NONE) RET 0
+insert 5 100 cap_rights_limit(1,NONE) RET 0
+insert 6 100 cap_rights_limit(2,NONE) RET 0
+insert 7 100 cap_rights_limit(3,CAP_READ|CAP_WRITE) RET 0
+# descriptor 4 isn't known; later calls need CAP_KQUEUE_CHANGE
+insert 8 100 cap_enter() RET 0
+""", 4)
+denials("nothing that was used was refused", KEVENT, "denials 0\n")
+
+POLL = """100 @start(0,1,2)
+100 open("log",O_WRONLY|O_APPEND) RET 3
+100 poll({ 0/POLLIN },1,-1) RET 1
+100 @uses(0,CAP_EVENT)
+100 read(0) RET 80
+100 write(3) RET 80
+"""
+row("a descriptor that is waited for", POLL, "findings 0\n")
+limits("what is waited for needs a right", POLL, """
+# process 100 before line 3
+insert 3 100 cap_rights_limit(0,CAP_READ|CAP_EVENT) RET 0
+insert 4 100 cap_rights_limit(1,NONE) RET 0
+insert 5 100 cap_rights_limit(2,NONE) RET 0
+insert 6 100 cap_rights_limit(3,CAP_WRITE) RET 0
+insert 7 100 cap_enter() RET 0
+""", 3)
+
+CONNECT = """100 @start(0,1,2)
+100 socket(PF_INET|SOCK_STREAM) RET 3
+100 connect(3) RET 0
+100 @global()
+100 write(3) RET 10
+"""
+row("a connect outside capability mode", CONNECT, "findings 0\n")
+limits("a connect that is in the way", CONNECT, """
+# process 100 before line 3
+insert 3 100 cap_rights_limit(0,NONE) RET 0
+insert 4 100 cap_rights_limit(1,NONE) RET 0
+insert 5 100 cap_rights_limit(2,NONE) RET 0
+insert 6 100 cap_rights_limit(3,CAP_WRITE|CAP_CONNECT) RET 0
+# no cap_enter: line 4, @global of process 100
+""", 3)
+limits("a marker that is itself in the way", CONNECT, """
+# process 100 before line 4
+insert 4 100 cap_rights_limit(0,NONE) RET 0
+insert 5 100 cap_rights_limit(1,NONE) RET 0
+insert 6 100 cap_rights_limit(2,NONE) RET 0
+insert 7 100 cap_rights_limit(3,CAP_WRITE) RET 0
+# no cap_enter: line 4, @global of process 100
+""", 4)
+limits("after the marker nothing is in the way", CONNECT, """
+# process 100 before line 5
+insert 5 100 cap_rights_limit(0,NONE) RET 0
+insert 6 100 cap_rights_limit(1,NONE) RET 0
+insert 7 100 cap_rights_limit(2,NONE) RET 0
+insert 8 100 cap_rights_limit(3,CAP_WRITE) RET 0
+insert 9 100 cap_enter() RET 0
+""", 5)
+row("one call is found twice, by its own line and by its marker", """
+100 @start(3)
+100 cap_rights_limit(3,CAP_WRITE) RET 0
+100 cap_enter() RET 0
+100 connect(3) RET 0
+100 @global()
+""", "4 100 connect missing 3 CAP_CONNECT\n5 100 @global forbidden\nfindings 2\n")
+
+WAIT = """100 @start(0,1,2)
+100 cap_enter() RET 0
+100 fork() RET 101
+101 @exit()
+100 wait4(101,{ EXITED,val=0 },0x0,0x0) RET 101
+100 @global()
+"""
+row("a wait for a child in capability mode", WAIT, "6 100 @global forbidden\nfindings 1\n")
+explain("where the mode comes from that forbids the wait", WAIT, 6, "6 100 @global()\nforbidden\nmode 2 100 cap_enter() RET 0\n", 1)
+
+ACCEPT = """200 @start(0,1,2)
+200 socket(PF_INET|SOCK_STREAM) RET 3
+200 bind(3) RET 0
+200 @global()
+200 listen(3) RET 0
+200 accept4(3,SOCK_CLOEXEC) RET 4
+200 fcntl(3,F_DUP2FD_CLOEXEC,4) RET 4
+200 read(4) RET 118
+200 write(4) RET 4310
+200 close(4) RET 0
+"""
+row("a connection that is a copy of its listener", ACCEPT, "findings 0\n")
+limits("what a connection needs of its listener", ACCEPT, """
+# process 200 before line 6
+insert 6 200 cap_rights_limit(0,NONE) RET 0
+insert 7 200 cap_rights_limit(1,NONE) RET 0
+insert 8 200 cap_rights_limit(2,NONE) RET 0
+insert 9 200 cap_rights_limit(3,CAP_READ|CAP_WRITE|CAP_ACCEPT) RET 0
+insert 10 200 cap_enter() RET 0
+""", 6)
+limits("a connection and its listener", ACCEPT, """
+insert 8 200 cap_rights_limit(4,CAP_READ|CAP_WRITE) RET 0
+insert 3 200 cap_rights_limit(3,CAP_READ|CAP_WRITE|CAP_ACCEPT|CAP_BIND|CAP_LISTEN) RET 0
+""")
+
+FOLDER_USED = """100 @start(0,1,2)
+100 openat(AT_FDCWD,"/var/db/tool",O_RDONLY|O_DIRECTORY) RET 3
+100 openat(3,"state",O_RDWR|O_CREAT) RET 4
+100 @uses(3,CAP_SEEK)
+100 getdirentries(0x3,0x800a00000,0x1000,0x7fffffffe5a8) RET 120
+100 @uses(3,CAP_READ)
+100 faccessat(0x3,"lock",F_OK,0) RET 0
+100 @uses(3,CAP_LOOKUP|CAP_FSTAT)
+100 write(4) RET 5
+"""
+row("what is used of a directory", FOLDER_USED, "findings 0\n")
+limits("what is needed of a directory, by the rules and beside them", FOLDER_USED, """
+# process 100 before line 3
+insert 3 100 cap_rights_limit(0,NONE) RET 0
+insert 4 100 cap_rights_limit(1,NONE) RET 0
+insert 5 100 cap_rights_limit(2,NONE) RET 0
+insert 6 100 cap_rights_limit(3,CAP_READ|CAP_WRITE|CAP_SEEK|CAP_CREATE|CAP_LOOKUP|CAP_FSTAT) RET 0
+insert 7 100 cap_enter() RET 0
+""", 3)
+
+REPLACED = """702 @start(0,1,2)
+702 openat(AT_FDCWD,"/var/log/messages",O_RDONLY) RET 3
+702 openat(AT_FDCWD,"/var/digest",O_RDONLY|O_DIRECTORY) RET 4
+702 fstat(3) RET 0
+702 openat(AT_FDCWD,"/etc/localtime",O_RDONLY) RET 5
+702 read(5) RET 2852
+702 close(5) RET 0
+702 cap_rights_limit(0,NONE) RET 0
+702 cap_rights_limit(1,CAP_WRITE) RET 0
+702 cap_rights_limit(2,CAP_WRITE) RET 0
+702 cap_rights_limit(3,CAP_READ) RET 0
+702 cap_rights_limit(4,CAP_READ|CAP_WRITE|CAP_CREATE|CAP_FSYNC|CAP_FTRUNCATE|CAP_LOOKUP|CAP_RENAMEAT_SOURCE|CAP_RENAMEAT_TARGET) RET 0
+702 cap_enter() RET 0
+702 read(3) RET 16384
+702 read(3) RET 0
+702 openat(4,"last",O_RDONLY) RET 5
+702 read(5) RET 812
+702 close(5) RET 0
+702 openat(4,"new",O_WRONLY|O_CREAT|O_TRUNC) RET 5
+702 write(5) RET 830
+702 fsync(5) RET 0
+702 close(5) RET 0
+702 renameat(4,"new",4,"last") RET 0
+702 @uses(4,CAP_UNLINKAT)
+702 write(1) RET 24
+702 @exit()
+"""
+row("a rename over a file that is there", REPLACED, "24 702 @uses missing 4 CAP_UNLINKAT\nfindings 1\n")
+explain("the limit that forgot the file that is there", REPLACED, 24, """
+24 702 @uses(4,CAP_LOOKUP|CAP_UNLINKAT)
+missing 4 CAP_UNLINKAT
+4 12 702 cap_rights_limit(4,CAP_READ|CAP_WRITE|CAP_CREATE|CAP_FSYNC|CAP_FTRUNCATE|CAP_LOOKUP|CAP_RENAMEAT_SOURCE|CAP_RENAMEAT_TARGET) RET 0
+4 3 702 openat(AT_FDCWD,"/var/digest",O_RDONLY|O_DIRECTORY) RET 4
+""", 1)
+
+REFUSED_USES = """100 @start(0,1,2,5)
+100 kqueue() RET 6
+100 cap_rights_limit(5,CAP_READ) RET 0
+100 cap_enter() RET 0
+100 kevent(6,{ 5,EVFILT_READ,EV_ADD,0,0,0x0 },1,0x0,0,0x0) RET -1 errno 93
+100 @refused(5,CAP_EVENT)
+100 poll({ 5/POLLIN },1,0) RET 1
+100 @refused(5,CAP_EVENT)
+100 wait4(-1,0x0,0x0,0x0) RET -1 errno 94
+"""
+row("calls that were refused, one of them without an errno", REFUSED_USES, "findings 0\n")
+denials("what calls without a form were refused", REFUSED_USES, """
+5 100 kevent unexplained
+6 100 @refused lacks 5 CAP_EVENT
+8 100 @refused lacks 5 CAP_EVENT
+9 100 wait4 inside
+denials 4
+""")
+explain("the limit by which one was refused", REFUSED_USES, 6, """
+6 100 @refused(5,CAP_EVENT)
+lacks 5 CAP_EVENT
+5 3 100 cap_rights_limit(5,CAP_READ) RET 0
+5 1 100 @start(0,1,2,5)
+""")
+limits("what was refused isn't needed", REFUSED_USES, """
+# process 100 before line 5
+insert 5 100 cap_rights_limit(0,NONE) RET 0
+insert 6 100 cap_rights_limit(1,NONE) RET 0
+insert 7 100 cap_rights_limit(2,NONE) RET 0
+insert 8 100 cap_rights_limit(5,NONE) RET 0
+# process 100 is in capability mode already
+""", 5)
+
+SENT = """100 @start(0,1,2)
+100 open("a",O_RDONLY|O_CLOEXEC) RET 3
+100 @foreign(5)
+100 fork() RET 101
+101 sendfile(0x3,0x5,0x0,0x10d6,0x0,0x0,0x0) RET 0
+101 @uses(3,CAP_READ|CAP_SEEK)
+101 @uses(5,CAP_WRITE)
+101 execve("/bin/x") RET 0
+101 aio_cancel(0x3,0x0) RET 2
+101 @uses(3,NONE)
+"""
+row("what a child uses, and after an exec", SENT, "findings 0\n", second="10 101 @uses closed 3\nfindings 1\n")
+limits("what a child uses of its parent's descriptor, and of one that isn't known", SENT, """
+# process 101 before line 5
+insert 5 101 cap_rights_limit(0,NONE) RET 0
+insert 6 101 cap_rights_limit(1,NONE) RET 0
+insert 7 101 cap_rights_limit(2,NONE) RET 0
+insert 8 101 cap_rights_limit(3,CAP_READ|CAP_SEEK) RET 0
+# descriptor 5 isn't known; later calls need CAP_WRITE
+# no cap_enter: line 8, execve of process 101
+""", 5)
+limits("what a child uses, where the parent makes it", SENT, "insert 3 100 cap_rights_limit(3,CAP_READ|CAP_SEEK) RET 0\n")
+explain("what an exec left", SENT, 10, '10 101 @uses(3,NONE)\n3 8 101 execve("/bin/x") RET 0\n', second=("""
+10 101 @uses(3,NONE)
+closed 3
+3 8 101 execve("/bin/x") RET 0
+3 4 100 fork() RET 101
+3 2 100 open("a",O_RDONLY|O_CLOEXEC) RET 3
+""", 1))
+
+row(
+    "markers in a script",
+    "100 @start(0,3)\n100 cap_rights_limit(3,CAP_WRITE) RET 0\n",
+    "findings 0\n",
+    """
+> insert 3 100 @uses(3,CAP_PREAD|CAP_WRITE)
+ok 3
+> show 3
+100 @uses(3,CAP_READ|CAP_WRITE|CAP_SEEK)
+> report
+3 100 @uses missing 3 CAP_READ|CAP_SEEK
+findings 1
+> replace 2 100 cap_rights_limit(3,CAP_PREAD|CAP_WRITE) RET 0
+ok 3
+> report
+findings 0
+> insert 2 100 cap_enter() RET 0
+ok 4
+> insert 5 100 @global()
+ok 5
+> report
+5 100 @global forbidden
+findings 1
+> report 1 4
+findings 0
+> replace 1 100 @start(0)
+ok 5
+> report
+3 100 cap_rights_limit closed 3
+5 100 @global forbidden
+findings 2
+> delete 3
+ok 4
+> report
+3 100 @uses closed 3
+4 100 @global forbidden
+findings 2
+> replace 3 100 @refused(3,CAP_SEEK|CAP_READ)
+ok 4
+> show 3
+100 @refused(3,CAP_READ|CAP_SEEK)
+> show 4
+100 @global()
+> delete 2
+ok 3
+> report
+findings 0
+> insert 9 100 @global()
+refused E7
+> insert 1 100 @global() RET 0
+refused E2
+status 0
+""",
+)
+for text, code in (
+    ("100 @uses(4,CAP_PREAD)", None),
+    ("100 @uses(4,ALL)", None),
+    ("100 @uses(4,NONE)", None),
+    ("100 @uses(4)", 4),
+    ("100 @uses(x,CAP_READ)", 4),
+    ("100 @uses(1048576,CAP_READ)", 4),
+    ("100 @uses(4,CAP_SEEK_TELL)", 5),
+    ("100 @uses(4,)", 5),
+    ("100 @uses(4,CAP_READ) RET 0", 2),
+    ("100 @uses(4,CAP_READ", 2),
+    ("100 @global(x)", 4),
+    ("100 @global() ", 2),
+    ("100 @wants(4,CAP_READ)", 2),
+    ("100 @refused(4,CAP_EVENT,93)", 4),
+    ("100 @refused(4,CAP_EVENT)", None),
+    ("100 @refused(4,ALL)", None),
+    ("100 @refused(4,NONE)", None),
+    ("100 @global()", None),
+    ("100 @uses()", 4),
+    ("100 @uses(4,CAP_READ,CAP_WRITE)", 4),
+    ("100 @uses(04,CAP_READ)", 4),
+    ("100 @uses(x,CAP_SEEK_TELL)", 4),
+    ("100 @uses(AT_FDCWD,CAP_READ)", 4),
+    ("100 @uses(4,ALL|CAP_READ)", 5),
+    ("100 @uses(4,cap_read)", 5),
+    ('100 @uses(4,"CAP_READ)")', 5),
+    ('100 @uses(4,"CAP_READ)', 2),
+    ("100 @refused(4,CAP_EVENT|)", 5),
+    ("100 @refused(4,CAP_EVENT) RET -1 errno 93", 2),
+    ("100 @refused(-1,CAP_EVENT)", 4),
+    ("100 @refused", 2),
+    ("100 @global", 2),
+    ("100 @global(", 2),
+    ("100 @global()\r", 2),
+    ("100 @Global()", 2),
+    ("100 uses(4,CAP_READ)", 2),
+    ("100 uses(4,CAP_READ) RET 0", None),
+    ("0 @global()", 3),
+    ("99999 @uses(1048575,CAP_READ)", None),
+    (f"99999 @refused(1048575,{EACH})", None),
+    ("100 @uses(4," + "CAP_READ|" * 112 + "CAP_READ)", 1),
+):
+    line(f"the marker {text[:60]!r}", text, code)
+for read, written in (("CAP_WRITE|CAP_PREAD|CAP_READ", "CAP_READ|CAP_WRITE|CAP_SEEK"), ("ALL", "ALL"), ("NONE", "NONE"), (EACH, EACH)):
+    script = "".join(f"> insert 1 99999 {marker}(1048575,{read})\nok {{}}\n> show 1\n99999 {marker}(1048575,{written})\n" for marker in ("@uses", "@refused"))
+    talk(f"rights {read[:40]} of markers are written again", "", script.format(1, 2) + "> report\nfindings 0\nstatus 0")
+
+USED_CLOSED = """1 @start(3)
+1 close(3) RET 0
+1 @uses(3,CAP_READ)
+1 @uses(4,NONE)
+1 @uses(3,ALL)
+1 @refused(3,CAP_READ)
+"""
+row("closed descriptors that are used", USED_CLOSED, "3 1 @uses closed 3\n4 1 @uses closed 4\n5 1 @uses closed 3\nfindings 3\n")
+explain("a closed descriptor that is used", USED_CLOSED, 3, "3 1 @uses(3,CAP_READ)\nclosed 3\n3 2 1 close(3) RET 0\n", 1)
+denials("a closed descriptor that was refused", USED_CLOSED, "6 1 @refused unexplained\ndenials 1\n")
+USED_COPIES = """1 @start(3)
+1 dup(3) RET 4
+1 fork() RET 2
+2 @uses(4,CAP_EVENT)
+2 close(4) RET 0
+2 pipe() RET 4,5
+2 @uses(4,CAP_FSYNC)
+1 @uses(3,CAP_SEEK)
+"""
+limits("what is used of a copy, in a child", USED_COPIES, """
+# process 1 before line 2
+insert 2 1 cap_rights_limit(3,CAP_SEEK|CAP_EVENT) RET 0
+insert 3 1 cap_enter() RET 0
+""", 2)
+limits("what is used in the child, and not what its parent uses", USED_COPIES, """
+# process 2 before line 4
+insert 4 2 cap_rights_limit(3,NONE) RET 0
+insert 5 2 cap_rights_limit(4,CAP_EVENT) RET 0
+insert 6 2 cap_enter() RET 0
+""", 4)
+limits("what is used of each descriptor that was made", USED_COPIES, """
+insert 7 2 cap_rights_limit(5,NONE) RET 0
+insert 7 2 cap_rights_limit(4,CAP_FSYNC) RET 0
+insert 3 1 cap_rights_limit(4,CAP_EVENT) RET 0
+""")
+limits("what is used of what is opened below a directory, and of a copy of what isn't known", """
+1 open("d",O_DIRECTORY) RET 3
+1 openat(3,"a",O_RDONLY) RET 4
+1 dup(7) RET 8
+1 @uses(4,CAP_EVENT)
+1 @uses(8,CAP_EVENT|CAP_READ)
+1 @uses(9,NONE)
+""", """
+# process 1 before line 2
+insert 2 1 cap_rights_limit(3,CAP_READ|CAP_LOOKUP|CAP_EVENT) RET 0
+# descriptor 7 isn't known; later calls need CAP_READ|CAP_EVENT
+insert 3 1 cap_enter() RET 0
+""", 2)
+limits("no more than is held is needed", "1 @uses(3,CAP_READ|CAP_EVENT)\n", """
+# process 1 before line 1
+insert 1 1 cap_rights_limit(3,CAP_READ) RET 0
+insert 2 1 cap_enter() RET 0
+""", 1, start="1 out closed 3=CAP_READ|CAP_SEEK\n")
+BUT_READ = "|".join("CAP_" + name for name in NAMES if name != "READ")
+USED_ALL = f"""1 open("a",O_RDONLY) RET 4
+1 @uses(4,ALL)
+1 cap_rights_limit(4,{EACH}) RET 0
+1 @uses(4,ALL)
+1 @refused(4,ALL)
+1 cap_rights_limit(4,CAP_READ) RET 0
+1 @uses(4,ALL)
+1 @refused(4,ALL)
+"""
+row("all rights are used, which a descriptor has that was limited to them", USED_ALL, f"7 1 @uses missing 4 {BUT_READ}\nfindings 1\n")
+denials("all rights are refused", USED_ALL, f"5 1 @refused unexplained\n8 1 @refused lacks 4 {BUT_READ}\ndenials 2\n")
+limits("all rights are needed", "1 @start(3)\n1 @uses(3,ALL)\n", f"""
+# process 1 before line 2
+insert 2 1 cap_rights_limit(3,{EACH}) RET 0
+insert 3 1 cap_enter() RET 0
+""", 2)
+USED_NONE = """1 @start(3)
+1 cap_rights_limit(3,NONE) RET 0
+1 @uses(3,NONE)
+1 @uses(4,NONE)
+1 @refused(3,NONE)
+2 @uses(4,NONE)
+"""
+row("a use that needs no right but an open descriptor", USED_NONE, "4 1 @uses closed 4\nfindings 1\n")
+denials("no right was refused", USED_NONE, "5 1 @refused unexplained\ndenials 1\n")
+limits("no right is needed", USED_NONE, "# process 2 before line 6\ninsert 6 2 cap_enter() RET 0\n", 6)
+
+GLOBAL = """1 @global()
+2 @start()
+2 @global()
+2 cap_enter() RET 0
+2 @global()
+2 fork() RET 3
+3 @global()
+2 @start()
+2 @global()
+"""
+row("a call that capability mode forbids, where the mode isn't known, outside and inside", GLOBAL, "5 2 @global forbidden\n7 3 @global forbidden\nfindings 2\n")
+explain("a mode that isn't known", GLOBAL, 1, "1 1 @global()\nmode start unsure\n")
+explain("outside", GLOBAL, 3, "3 2 @global()\nmode 2 2 @start()\n")
+explain("inside, in a child", GLOBAL, 7, "7 3 @global()\nforbidden\nmode 6 2 fork() RET 3\nmode 4 2 cap_enter() RET 0\n", 1)
+explain("outside again", GLOBAL, 9, "9 2 @global()\nmode 8 2 @start()\n")
+denials("what succeeded inside wasn't refused", GLOBAL, "denials 0\n")
+row_from("markers after a start", "1 in closed 3=CAP_READ\n", "1 @global()\n1 @uses(3,CAP_EVENT)\n1 @refused(3,CAP_EVENT)\n", """
+1 1 @global forbidden
+2 1 @uses missing 3 CAP_EVENT
+findings 2
+""")
+denials("what was refused after a start", "1 @refused(3,CAP_EVENT)\n", "1 1 @refused lacks 3 CAP_EVENT\ndenials 1\n", start="1 in closed 3=CAP_READ\n")
+explain("a use that rests on the start", "1 @uses(3,CAP_EVENT)\n", 1, "1 1 @uses(3,CAP_EVENT)\nmissing 3 CAP_EVENT\n3 start CAP_READ\n", 1, start="1 in closed 3=CAP_READ\n")
+explain("a mode that rests on the start", "1 @global()\n", 1, "1 1 @global()\nforbidden\nmode start in\n", 1, start="1 in closed\n")
+IN_THE_WAY = """1 @start(3)
+1 fork() RET 2
+2 cap_enter() RET 0
+2 @global()
+1 fork() RET 4
+4 @global()
+1 @global()
+"""
+limits("a marker of a child is in the way, but not of one that is inside", IN_THE_WAY, """
+# process 1 before line 2
+insert 2 1 cap_rights_limit(3,NONE) RET 0
+# no cap_enter: line 6, @global of process 4
+""", 2)
+limits("markers of processes that aren't children are not in the way", IN_THE_WAY, """
+# process 2 before line 3
+insert 3 2 cap_rights_limit(3,NONE) RET 0
+insert 4 2 cap_enter() RET 0
+""", 3)
+limits("a marker inside is not in the way of what is done already", IN_THE_WAY, """
+# process 2 before line 4
+insert 4 2 cap_rights_limit(3,NONE) RET 0
+# process 2 is in capability mode already
+""", 4)
+
+REFUSED_RIGHTS = """1 @start(3)
+1 @refused(3,CAP_READ)
+1 cap_rights_limit(3,CAP_WRITE) RET 0
+1 @refused(3,CAP_READ|CAP_WRITE)
+1 @refused(4,CAP_READ)
+1 @refused(3,CAP_WRITE)
+2 @refused(3,CAP_READ)
+1 cap_enter() RET 0
+1 @refused(3,CAP_EVENT)
+"""
+row("a refusal that is a marker is never found", REFUSED_RIGHTS, "findings 0\n")
+denials("refusals that are markers", REFUSED_RIGHTS, """
+2 1 @refused unexplained
+4 1 @refused lacks 3 CAP_READ
+5 1 @refused unexplained
+6 1 @refused unexplained
+7 2 @refused unexplained
+9 1 @refused lacks 3 CAP_EVENT
+denials 6
+""")
+explain("a refusal that isn't explained, and no mode", REFUSED_RIGHTS, 2, "2 1 @refused(3,CAP_READ)\nunexplained\n3 1 1 @start(3)\n")
+explain("a refusal of what isn't known", REFUSED_RIGHTS, 7, "7 2 @refused(3,CAP_READ)\nunexplained\n3 start unknown\n")
+limits("refusals need nothing", REFUSED_RIGHTS, """
+# process 1 before line 2
+insert 2 1 cap_rights_limit(3,CAP_WRITE) RET 0
+insert 3 1 cap_enter() RET 0
+""", 2)
+limits("nor of what isn't known", REFUSED_RIGHTS, "# process 2 before line 7\ninsert 7 2 cap_enter() RET 0\n", 7)
+
+UNCHANGED = """1 @start(3)
+1 @uses(3,CAP_READ)
+1 @refused(3,CAP_WRITE)
+1 @global()
+1 write(3) RET 1
+1 cap_rights_limit(3,ALL) RET -1 errno 93
+1 open("a",O_RDONLY) RET -1 errno 94
+1 @uses(4,CAP_READ)
+1 @refused(4,CAP_READ)
+1 read(4) RET 1
+2 @uses(3,CAP_READ)
+2 @refused(3,CAP_WRITE)
+2 @global()
+2 write(3) RET 1
+2 read(3) RET -1 errno 93
+2 open("a",O_RDONLY) RET -1 errno 94
+"""
+row("markers change nothing", UNCHANGED, """
+6 1 cap_rights_limit refusal
+7 1 open moderefusal
+8 1 @uses closed 4
+10 1 read closed 4
+findings 4
+""")
+explain("no marker among the lines that a cell comes from", UNCHANGED, 5, "5 1 write(3) RET 1\n3 1 1 @start(3)\n")
+explain("nor among those of what isn't known", UNCHANGED, 14, "14 2 write(3) RET 1\n3 start unknown\n")
+explain("nor among those of a mode", UNCHANGED, 7, '7 1 open("a",O_RDONLY) RET -1 errno 94\nmoderefusal\nunexplained\nmode 1 1 @start(3)\n', 1)
+limits("a marker makes no descriptor", "1 @uses(3,CAP_READ)\n1 @refused(4,CAP_READ)\n1 @global()\n", "")
+row_2("markers leave the flag", """
+1 open("a",O_RDONLY|O_CLOEXEC) RET 3
+1 dup(3) RET 4
+1 cap_rights_limit(4,CAP_READ) RET 0
+1 @uses(3,CAP_READ)
+1 @refused(3,CAP_READ)
+1 @uses(4,CAP_READ)
+1 execve("/bin/x") RET 0
+1 @uses(3,CAP_READ)
+1 @uses(4,CAP_EVENT)
+""", "8 1 @uses closed 3\n9 1 @uses missing 4 CAP_EVENT\nfindings 2\n")
+
+# ---- limits where a process begins
+
+BEGINS = """1 @start(3)
+1 cap_enter() RET 0
+1 read(3) RET 1
+1 @start(4,5)
+1 read(4) RET 1
+1 fork() RET 2
+2 @start(5)
+2 open("a",O_RDONLY) RET 6
+1 @global()
+"""
+for position, pid in ((1, 1), (4, 1), (7, 2)):
+    text = f"# process {pid} before line {position}\n# line {position} is where process {pid} begins\n"
+    limits(f"process {pid} begins at line {position}", BEGINS, text, position)
+    limits(f"process {pid} begins at line {position}, after a start inside", BEGINS, text, position, start="1 in ALL\n2 in CAP_READ 7=unknown\n")
+limits("before a process begins again", BEGINS, """
+# process 1 before line 3
+insert 3 1 cap_rights_limit(3,CAP_READ) RET 0
+# process 1 is in capability mode already
+""", 3)
+limits("after a process began", BEGINS, """
+# process 1 before line 5
+insert 5 1 cap_rights_limit(4,CAP_READ) RET 0
+insert 6 1 cap_rights_limit(5,NONE) RET 0
+# no cap_enter: line 9, @global of process 1
+""", 5)
+limits("a child that begins by itself isn't in the way", BEGINS, """
+# process 1 before line 6
+insert 6 1 cap_rights_limit(4,NONE) RET 0
+insert 7 1 cap_rights_limit(5,NONE) RET 0
+# no cap_enter: line 9, @global of process 1
+""", 6)
+limits("each descriptor that was made, where processes begin", BEGINS, "insert 9 2 cap_rights_limit(6,NONE) RET 0\n")
+limits("no line is after those where processes begin", BEGINS, "refused E7\n", 10)
+limits("where a process begins, and a later line that can't be read", BEGINS + "1 read(x) RET 1\n", "refused E4 line 10\n", 1)
+limits("where a process begins, and a start that can't be read", BEGINS, "refused E4 start line 1\n", 1, start="1 in\n")
 
 # ---- the words of denials
 
@@ -2444,8 +3041,9 @@ OPENED = """
 100 open("a",O_RDONLY) RET 5
 100 execve("/bin/x") RET 0
 100 read(5) RET 1
+200 foo() RET 0
 """.removeprefix("\n")
-HELD = "100 out closed {}=CAP_WRITE|CAP_READ\n"
+HELD = "200 out closed {}=CAP_WRITE|CAP_READ\n"
 BEHIND_3 = 0, "insert 4 100 cap_rights_limit(5,NONE) RET 0\n", ""
 BEHIND_3_IN_2 = 0, "insert 4 100 cap_rights_limit(5,CAP_READ) RET 0\n", ""
 
@@ -2455,9 +3053,9 @@ def before_3(fd):
     return 0, f"# process 100 before line 3\ninsert 3 100 cap_rights_limit({fd},NONE) RET 0\n# no cap_enter: line 3, open of process 100\n", ""
 
 
-def before_1(fd):
-    """The answer before line 1, of any of the traces, from a start where this descriptor is held."""
-    return 0, f"# process 100 before line 1\ninsert 1 100 cap_rights_limit({fd},NONE) RET 0\ninsert 2 100 cap_enter() RET 0\n", ""
+def before_6(fd):
+    """The answer before line 6, of any of the traces, from a start where this descriptor is held."""
+    return 0, f"# process 200 before line 6\ninsert 6 200 cap_rights_limit({fd},NONE) RET 0\ninsert 7 200 cap_enter() RET 0\n", ""
 
 
 for name, fd in (("t", 21), ("-h", 22), ("-", 23), ("limits", 24), ("-t", 25), ("9", 26)):
@@ -2479,15 +3077,16 @@ for words, wanted in (
     (["t", "--profile", "1"], BEHIND_3),
     (["t", "-p", "2", "3"], before_3(21)),
     (["t", "0"], NO_LINE),
-    (["t", "6"], NO_LINE),
+    (["t", "7"], NO_LINE),
     (["9", "9999999999999999999"], NO_LINE),
-    (["t", "1", "-s", "from"], before_1(3)),
+    (["t", "1", "-s", "from"], (0, "# process 100 before line 1\n# line 1 is where process 100 begins\n", "")),
+    (["t", "6", "-s", "from"], before_6(3)),
     (["--start=from", "t", "--profile", "2"], BEHIND_3_IN_2),
 ):
     count += 1
     compare(" ".join(["limits"] + words), "the texts that it reads", run(["limits"] + words, OPENED.format(20).encode()), wanted)
 count += 1
-compare("limits t 1 -s -", "the text on standard input", run(["limits", "t", "1", "-s", "-"], HELD.format(21).encode()), before_1(21))
+compare("limits t 6 -s -", "the text on standard input", run(["limits", "t", "6", "-s", "-"], HELD.format(21).encode()), before_6(21))
 
 # ---- words on standard error
 
@@ -2524,7 +3123,7 @@ def words_of(name, trace, code, line, words):
 GOOD = "100 @start(0)\n"
 for name, trace, code, line, words in (
     ("a right that is none", GOOD + "100 cap_rights_limit(0,CAP_READ|CAP_RAED) RET 0\n", 5, 2, "CAP_RAED is not a right"),
-    ("a right that is missing", GOOD + "100 cap_rights_limit(0,) RET 0", 5, 2, " is not a right"),
+    ("a right that is missing", GOOD + "100 cap_rights_limit(0,) RET 0", 5, 2, "a right is empty"),
     ("a list of ALL and more", GOOD + "100 cap_rights_limit(0,ALL|CAP_READ) RET 0", 5, 2, "ALL|CAP_READ is not a list of rights"),
     ("lines that are skipped", "# a\n\n" + GOOD + "\n100 read(x) RET 1\n", 4, 5, "x is not a descriptor"),
     ("a path without quotes", '100 openat(AT_FDCWD,a,0) RET 3\n', 4, 1, "a is not a path in double quotes"),
@@ -2535,6 +3134,12 @@ for name, trace, code, line, words in (
     ("arguments where there are none", "100 @exit(0)\n", 4, 1, "@exit takes no arguments, but here it has (0)"),
     ("descriptors that don't rise", "100 @start(3,3)\n", 4, 1, "@start takes descriptors, each above the one before, but here it has (3,3)"),
     ("another descriptor as the result", "100 dup2(3,4) RET 5\n", 4, 1, "the result is not the descriptor that the arguments name"),
+    ("a marker without its rights", "100 @uses(4)\n", 4, 1, "@uses takes a descriptor and rights, but here it has (4)"),
+    ("a marker of what is no descriptor", GOOD + "100 @refused(x,CAP_READ)\n", 4, 2, "x is not a descriptor"),
+    ("a right that is none, in a marker", GOOD + "100 @uses(4,CAP_READ|CAP_RAED)", 5, 2, "CAP_RAED is not a right"),
+    ("a marker that takes no arguments", "100 @global(x)\n", 4, 1, "@global takes no arguments, but here it has (x)"),
+    ("a marker that there is none of", "100 @wants(4,CAP_READ)\n", 2, 1, "@wants is not the name of a marker"),
+    ("a marker of needs with a result", "100 @uses(4,CAP_READ) RET 0\n", 2, 1, " RET 0 follows the marker"),
     ("a result that is none", "100 pipe() RET 4\n", 6, 1, "4 is not a result that the call can have"),
     ("an errno that is none", "100 close(0) RET -1 errno x\n", 6, 1, "-1 errno x is not a result that the call can have"),
     ("a line of a pid", "100\n", 2, 1, "the line ends after the pid"),
@@ -2578,7 +3183,8 @@ for words, report, said in (
     (["limits", "t", "3"], "refused E7\n", "capcheck: t: E7: there is no line 3, of 2 that are not skipped\n"),
     (["limits", "t", "0", "-s", "start"], "refused E7\n", "capcheck: t: E7: there is no line 0, of 2 that are not skipped\n"),
     (["limits", "t"], "", ""),
-    (["limits", "t", "1"], "# process 100 before line 1\ninsert 1 100 cap_enter() RET 0\n", ""),
+    (["limits", "t", "1"], "# process 100 before line 1\n# line 1 is where process 100 begins\n", ""),
+    (["limits", "t", "2"], "# process 100 before line 2\ninsert 2 100 cap_rights_limit(0,CAP_READ) RET 0\ninsert 3 100 cap_enter() RET 0\n", ""),
     (["denials", "t", "-s", "nofile"], "", "capcheck: nofile: no such file or directory\ncapcheck: E11\n"),
     (["check", "."], "", "capcheck: .: is a directory\ncapcheck: E11\n"),
     (["edit", "t", "."], "", "capcheck: .: is a directory\ncapcheck: E11\n"),

@@ -193,6 +193,27 @@ with tempfile.NamedTemporaryFile("w") as opened:
         talk.hear("4 100 read closed 5\nfindings 1\n")
         talk.end(1)
 
+name = "a session with markers of needs"
+with tempfile.NamedTemporaryFile("w") as limited:
+    limited.write("100 @start(3)\n100 cap_rights_limit(3,CAP_READ) RET 0\n")
+    limited.flush()
+    with Talk(program, "edit", limited.name) as talk:
+        for command, reply in (
+            ("insert 3 100 @uses(3,CAP_EVENT|CAP_READ)", "ok 3"),
+            ("show 3", "100 @uses(3,CAP_READ|CAP_EVENT)"),
+            ("report", "3 100 @uses missing 3 CAP_EVENT\nfindings 1"),
+            ("replace 3 100 @refused(3,CAP_EVENT)", "ok 3"),
+            ("report", "findings 0"),
+            ("insert 4 100 @global()", "ok 4"),
+            ("report", "findings 0"),
+            ("insert 3 100 cap_enter() RET 0", "ok 5"),
+            ("report", "5 100 @global forbidden\nfindings 1"),
+            ("insert 1 100 @uses(3)", "refused E4"),
+        ):
+            talk.say(command + "\n")
+            talk.hear(reply + "\n")
+        talk.end(1)
+
 name = "a refused start is answered before its end comes, and before a trace comes"
 with tempfile.TemporaryDirectory() as folder:
     os.mkfifo(folder + "/start")
@@ -217,6 +238,14 @@ with Talk(program, "limits", "-", "2") as talk:
     talk.hear_nothing()
     talk.program.stdin.close()
     talk.hear("# process 100 before line 2\ninsert 2 100 cap_rights_limit(0,CAP_READ) RET 0\ninsert 3 100 cap_enter() RET 0\n")
+    talk.ends(0)
+
+name = "where the process begins limits come after the end of the trace too"
+with Talk(program, "limits", "-", "1") as talk:
+    talk.say("100 @start(0)\n")
+    talk.hear_nothing()
+    talk.program.stdin.close()
+    talk.hear("# process 100 before line 1\n# line 1 is where process 100 begins\n")
     talk.ends(0)
 
 name = "a refused line ends limits before the trace's end comes"

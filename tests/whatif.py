@@ -201,8 +201,13 @@ def refusals():
     rows = [
         ("insert 1 " + "x" * 1040, "the line has more than 1,024 bytes (E1)"),
         ("insert 1 100 read(3)", "the line's shape is wrong: PID NAME(ARGUMENTS) RET RESULT, with one space where one is shown (E2)"),
+        ("insert 1 100 @uses(3,CAP_READ) RET 0", "a marker is written PID @uses(FD,RIGHTS), and nothing comes after it (E2)"),
+        ("insert 1 100 @refuse(3,CAP_READ)", "there is no marker @refuse (is it @refused?) (E2)"),
+        ("insert 1 100 @xyz(3)", "there is no marker @xyz (E2)"),
         ("insert 1 0 read(3) RET 1", "the line must begin with the number of a process, from 1 to 99999, and a space (E3)"),
         ("insert 1 100 read(x) RET 1", "an argument is wrong, or there are too few or too many: read(FD) (E4)"),
+        ("insert 1 100 @uses(3)", "an argument is wrong, or there are too few or too many: @uses(FD,RIGHTS) (E4)"),
+        ("insert 1 100 @global(3)", "an argument is wrong, or there are too few or too many: @global() (E4)"),
         ("insert 1 100 dup2(3,4) RET 5",
          "an argument is wrong, or there are too few or too many: dup2(FD,FD), which answers the second FD (E4)"),
         ("insert 1 100 sendto(1,2) RET 1",
@@ -211,6 +216,8 @@ def refusals():
          "CAP_RAED is no right (is it CAP_READ?) and XYZ is no right (E5)"),
         ("replace 4 201 cap_rights_limit(4,NONE|CAP_READ) RET 0",
          "a right is wrong: ALL, NONE, or names from rights(4) with | between them (E5)"),
+        ("insert 1 100 @uses(4,CAP_EVNT)", "CAP_EVNT is no right (is it CAP_EVENT?) (E5)"),
+        ("insert 1 100 @refused(4,)", "nothing is no right (E5)"),
         ("insert 1 100 close(3) RET 1",
          "the call can't have this result: RET and a number, or RET -1 errno and a number (E6)"),
         ("show 13", "there is no such line: positions go from 1 to 12 (E7)"),
@@ -287,7 +294,9 @@ def completion():
     rows = [
         ("expl\t", "explain "), ("und\t", "undo"), ("wri\t", "write"), ("lim\t", "limits "), ("den\t", "denials"), ("help expla\t", "help explain"),
         ("insert 1 100 getpeern\t", "insert 1 100 getpeername("),
-        ("insert 1 100 @for\t", "insert 1 100 @foreign("),
+        ("insert 1 100 @for\t", "insert 1 100 @foreign("), ("insert 1 100 @us\t", "insert 1 100 @uses("),
+        ("insert 1 100 @uses(3,CAP_SHU\t", "insert 1 100 @uses(3,CAP_SHUTDOWN"),
+        ("insert 1 100 @refused(3,CAP_READ|CAP_GETSOCKN\t", "insert 1 100 @refused(3,CAP_READ|CAP_GETSOCKNAME"),
         ("insert 1 100 cap_rights_limit(3,CAP_SHU\t", "insert 1 100 cap_rights_limit(3,CAP_SHUTDOWN"),
         ("replace 1 100 cap_rights_limit(3,CAP_READ|CAP_GETSOCKN\t", "replace 1 100 cap_rights_limit(3,CAP_READ|CAP_GETSOCKNAME"),
         ("replace 4 \t", "replace 4 201 cap_rights_limit(4,CAP_READ|CAP_WRITE) RET 0"),
@@ -485,7 +494,7 @@ def other_commands():
         printed = subprocess.run([PROGRAM, words[0], trace, *words[1:]], capture_output=True, text=True, timeout=60).stdout
         compare(" ".join(words), (0, printed, ""), run("--capcheck", PROGRAM, trace, script=" ".join(words) + "\n"))
         inserts = [line.split(" ")[1] for line in printed.splitlines() if line.startswith("insert ")]
-        wanted = "".join(f"inserted line {at}: {count} lines, 0 findings\n" for count, at in enumerate(inserts, 15))
+        wanted = "".join(f"inserted line {at}: {count} lines, 0 findings\n" for count, at in enumerate(inserts, 16))
         script = printed if words[0] == "limits" else ""
         compare(f"what {' '.join(words)} printed", (0, wanted, ""), run("--capcheck", PROGRAM, trace, script=script))
 
@@ -520,6 +529,41 @@ line 9, 100 open: it succeeded, and capability mode forbids it (forbidden)
 5 findings
 """
     compare("kinds of findings", (1, wanted, ""), run("--capcheck", PROGRAM, trace, script="report\n"))
+    trace = file_of("markers.trace", """100 @start(3)
+100 cap_rights_limit(3,CAP_READ) RET 0
+100 @uses(3,CAP_EVENT)
+100 @uses(4,NONE)
+100 cap_enter() RET 0
+100 @global()
+100 @refused(3,CAP_EVENT)
+""")
+    wanted = """line 3, 100 @uses: a call succeeded, and descriptor 3 lacks CAP_EVENT (missing)
+line 4, 100 @uses: a call succeeded, and descriptor 4 is closed (closed)
+line 6, 100 @global: a call succeeded, and capability mode forbids it (forbidden)
+3 findings
+6  100 @global()
+   ^ a call succeeded, and capability mode forbids it (forbidden)
+7  100 @refused(3,CAP_EVENT)
+7 100 @refused lacks 3 CAP_EVENT
+denials 1
+"""
+    compare("findings of markers", (1, wanted, ""), run("--capcheck", PROGRAM, trace, script="report\nprint 6 7\ndenials\n"))
+    trace = file_of("connects.trace", """100 @start(0)
+100 socket(PF_INET|SOCK_STREAM) RET 3
+100 connect(3) RET 0
+100 write(3) RET 10
+""")
+    wanted = """inserted line 4: 5 lines, 0 findings
+inserted line 5: 6 lines, 0 findings
+# process 100 before line 3
+insert 3 100 cap_rights_limit(0,NONE) RET 0
+insert 4 100 cap_rights_limit(3,CAP_WRITE|CAP_CONNECT|CAP_EVENT) RET 0
+# no cap_enter: line 4, @global of process 100
+# process 100 before line 1
+# line 1 is where process 100 begins
+"""
+    script = "insert 4 100 @global()\ninsert 5 100 @uses(3,CAP_EVENT)\nlimits 3\nlimits 1\n"
+    compare("limits with markers", (0, wanted, ""), run("--capcheck", PROGRAM, trace, script=script))
     trace = file_of("many.trace", "100 @start(3)\n" + "100 write(3) RET 1\n" * 12)
     shown = "".join(f"new: line {at}, 100 write: it succeeded, and descriptor 3 lacks CAP_WRITE (missing)\n" for at in range(3, 13))
     wanted = f"inserted line 2: 14 lines, 12 findings\n{shown}new: 2 more\n"

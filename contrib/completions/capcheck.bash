@@ -41,6 +41,7 @@ _capcheck() {
     case $before in
         -p|--profile) offered="1 2";;
         --format) offered="text html json gcc";;
+        --kernel) offered="12 13 14 15";;
         -s|--start|-o|--output|--capcheck|--pid) ;;
         *)
             if [[ $word == -* ]]; then

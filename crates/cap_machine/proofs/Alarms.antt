@@ -375,3 +375,5 @@ module _ (one two : ℕ → ℕ → Cell) (under : (p f : ℕ) → Under (one p 
       unless (p == me) (given (started fds f)) (given (started fds f)) (given_fit (started fds f)) p f
   item_fits items.Exit m me never quiet p f = unless (p == me) (given Unknown) (given Unknown) (given_fit Unknown) p f
   item_fits (items.Foreign g) m me never quiet p f = on_fd_fits g (given Unknown) (given_fit Unknown) me p f
+  item_fits (items.Needs marker g rights) m me never quiet p f = kept_fit p f
+  item_fits items.Global m me never quiet p f = kept_fit p f

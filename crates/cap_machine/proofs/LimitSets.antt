@@ -256,6 +256,8 @@ item_set : (profile : Profile) (item : Item) (me p f : ℕ) → TouchSet (item_t
 item_set profile (items.Start fds) me p f = unless (p == me) (given (started fds f)) (started_set fds f)
 item_set profile items.Exit me p f = unless (p == me) (given Unknown) tt
 item_set profile (items.Foreign g) me p f = unless (p == me && f == g) (given Unknown) tt
+item_set profile (items.Needs marker g rights) me p f = tt
+item_set profile items.Global me p f = tt
 item_set profile (items.Call call answer) me p f = call_set profile call answer me p f
 
 -- ---- a state

@@ -316,3 +316,17 @@ item_done profile (items.Foreign g) me is = record {
   child = λ p is. absurd (cc);
   single = λ part. tt;
 }
+item_done profile (items.Needs marker g rights) me is = record {
+  effect = effects.Keep;
+  does = λ p f. refl;
+  fds = tt;
+  child = λ p is. absurd (cc);
+  single = λ part. tt;
+}
+item_done profile items.Global me is = record {
+  effect = effects.Keep;
+  does = λ p f. refl;
+  fds = tt;
+  child = λ p is. absurd (cc);
+  single = λ part. tt;
+}

@@ -10,7 +10,7 @@ use Rattle.cap_machine.specs.declared.cell.OnExec.TheVariants as flags
 use Rattle.cap_machine.specs.declared.cell.Mode.{Mode}
 use Rattle.cap_machine.specs.declared.cell.Mode.TheVariants.{Inside, Outside}
 use Rattle.cap_machine.specs.declared.rule.Class.{Class}
-use Rattle.cap_machine.specs.declared.rule.Class.TheVariants.{Forbidden, Allowed, Either}
+use Rattle.cap_machine.specs.declared.rule.Class.TheVariants.{Forbidden}
 use Rattle.cap_machine.specs.declared.rule.Check.{Check}
 use Rattle.cap_machine.specs.declared.rule.Requirement.{Requirement}
 use Rattle.cap_machine.specs.declared.rule.Reply.{Reply}

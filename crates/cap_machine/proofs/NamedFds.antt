@@ -399,6 +399,8 @@ item_checks : (item : Item) → All (λ (check : Check). list_any (arg_names che
     (listed (item_requirement item).checks)
 item_checks (items.Call call answer) =
     call_checks (λ g. list_any (arg_names g) (args_of_call call)) answer call (λ g is. is)
+item_checks (items.Needs marker f rights) =
+    one_check (λ g. list_any (arg_names g) (args_of (items.Needs marker f rights))) _ (leading f _)
 item_checks item = All-nil (λ (check : Check). list_any (arg_names check.fd) (args_of item) ≡ true)
 
 pub named_checks : NamedChecks

@@ -210,4 +210,5 @@ call_checks _ answer = tt
 
 pub item_checks : (item : Item) → AllNamed (listed (item_requirement item).checks)
 item_checks (items.Call call answer) = call_checks call answer
+item_checks (items.Needs marker f rights) = (mask_lt rights 63, tt)
 item_checks _ = tt

@@ -83,6 +83,8 @@ module _ (me p : ℕ) (other : (p == me) ≡ false) where
   item_stays (items.Start fds) no_child = stays_if (p == me) _ other
   item_stays items.Exit no_child = stays_if (p == me) _ other
   item_stays (items.Foreign g) no_child = refl
+  item_stays (items.Needs marker g rights) no_child = refl
+  item_stays items.Global no_child = refl
 
 pub own_modes : OwnModes
 own_modes step p none =

@@ -3,7 +3,7 @@ use Rattle.std.proofs.Common.{◌≡◌, ℕ, Option, Some, None, refl, sym, ap}
 use Rattle.std.proofs.lemmas.Nat.{and_assoc}
 use Rattle.cap_machine.specs.declared.cell.OnExec.TheVariants.{Set, Clear, Unsure}
 use Rattle.cap_machine.specs.declared.cell.Cell.{Cell}
-use Rattle.cap_machine.specs.declared.cell.Cell.TheVariants.{Unknown, Closed, Held}
+use Rattle.cap_machine.specs.declared.cell.Cell.TheVariants.{Held}
 use Rattle.cap_machine.specs.declared.cell.HeldOp.{HeldOp}
 use Rattle.cap_machine.specs.declared.cell.HeldOp.TheVariants.{Becomes, Keeps}
 use Rattle.cap_machine.specs.declared.cell.Op.{Op}

@@ -13,7 +13,7 @@ use Rattle.cap_machine.specs.declared.rule.Check.{Check}
 use Rattle.cap_machine.specs.declared.rule.Requirement.{Requirement}
 use Rattle.cap_machine.specs.declared.rule.LimitWord.{LimitWord}
 use Rattle.cap_machine.specs.declared.rule.Reply.{Reply}
-use Rattle.cap_machine.specs.declared.rule.Reply.TheVariants.{Success, NotCapable, NotPermitted, Other}
+use Rattle.cap_machine.specs.declared.rule.Reply.TheVariants.{Success, NotCapable}
 use Rattle.cap_machine.specs.declared.verdict.Finding.{Finding}
 use Rattle.cap_machine.specs.State.{State}
 use Rattle.cap_machine.specs.Steps.{step, steps}

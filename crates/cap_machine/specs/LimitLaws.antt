@@ -1,5 +1,5 @@
 -- Limits to the live rights, put in at one place of a trace: they are enough, and no less would do.
-use Rattle.std.specs.Prelude.{◌≡◌, ◌↔◌, ℕ, suc, ◌<◌, ◌≤◌, ◌^◌, true, false, Bool, if◌then◌else◌, List, [], ◌∷◌, ◌++◌}
+use Rattle.std.specs.Prelude.{◌≡◌, ℕ, suc, ◌<◌, ◌≤◌, true, false, Bool, if◌then◌else◌, List, [], ◌∷◌, ◌++◌}
 use Rattle.std.specs.Prelude.{map}
 use Rattle.std.specs.List.{All, IsAmong}
 use Rattle.cap_rights.specs.Rights.{all, holds}

@@ -1,10 +1,14 @@
 -- What limits_before answers: the least rights of the descriptors of a process before a line of a trace.
-use Rattle.std.specs.Prelude.{◌≡◌, ◌⊎◌, ◌↔◌, ◌<◌, ◌+◌, ℕ, ◌==◌, Bool, true, List, ◌∷◌, ◌++◌, map, reverse, length, Option, Some, None}
+use Rattle.std.specs.Prelude.{◌≡◌, ◌⊎◌, ◌↔◌, ◌<◌, ◌+◌, ℕ, ◌==◌, Bool, true, false, List, ◌∷◌, ◌++◌, map, reverse, length}
 use Rattle.std.specs.List.{All, list_any}
+use Rattle.cap_trace.specs.Item.{Item}
+use Rattle.cap_trace.specs.Item as items
 use Rattle.cap_trace.specs.Entry.{Entry}
 use Rattle.cap_machine.specs.declared.cell.Profile.{Profile}
 use Rattle.cap_machine.specs.declared.step.Step.{Step}
 use Rattle.cap_machine.specs.declared.limits.Limits.{Limits}
+use Rattle.cap_machine.specs.declared.limits.LimitsBefore.{LimitsBefore}
+use Rattle.cap_machine.specs.declared.limits.LimitsBefore.TheVariants as there
 use Rattle.cap_rights.specs.Rights.{all}
 use Rattle.cap_machine.specs.declared.cell.OnExec.TheVariants.{Unsure}
 use Rattle.cap_machine.specs.declared.cell.Cell.TheVariants.{Unknown}
@@ -42,10 +46,20 @@ pub record AreLimitsOf (start : List Added) (before later : List Step) (at p : �
       → Live later p f Unsure k → rows_name (map row_of limits.unknown.items) f ≡ true
   pub entering : IsEntering (ended (start_state start) before) at later p limits.entering
 
--- of the process of the line at a position of a trace, from 1; none where there is no such line
-abbrev pub AreLimitsBefore : Profile → List Added → List Entry → ℕ → Option Limits → Type 0
-AreLimitsBefore profile start lines at None = (at ≡ 0) ⊎ (length lines < at)
-AreLimitsBefore profile start lines at (Some limits) =
+-- `@start` makes all cells of its process and its mode anew, so what is put in before it is lost
+abbrev pub begins : Item → Bool
+begins (items.Start fds) = true
+begins _ = false
+
+-- of the process of the line at a position of a trace, from 1: there is no such line, its process begins there, or it has
+-- these limits
+abbrev pub AreLimitsBefore : Profile → List Added → List Entry → ℕ → LimitsBefore → Type 0
+AreLimitsBefore profile start lines at there.NoLine = (at ≡ 0) ⊎ (length lines < at)
+AreLimitsBefore profile start lines at (there.Begins p) =
+    (before : List Entry) × (line : Entry) × (later : List Entry) × (lines ≡ before ++ line ∷ later)
+    × (at ≡ length before + 1) × (begins line.item ≡ true) × (p ≡ line.pid)
+AreLimitsBefore profile start lines at (there.Limits limits) =
     (before : List Entry) × (line : Entry) × (later : List Entry) × (lines ≡ before ++ line ∷ later)
     × (at ≡ length before + 1)
     × AreLimitsOf start (steps profile before) (steps profile (line ∷ later)) at line.pid limits
+    × (begins line.item ≡ false)

@@ -85,6 +85,8 @@ is_whole_item (items.Call call answer) = is_whole_call call
 is_whole_item (items.Start fds) = true
 is_whole_item items.Exit = true
 is_whole_item (items.Foreign g) = false
+is_whole_item (items.Needs marker g rights) = false
+is_whole_item items.Global = false
 
 -- no step touches another process than its own and its child
 abbrev pub OwnProcesses : Type 0

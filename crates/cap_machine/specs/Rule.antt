@@ -15,6 +15,8 @@ use Rattle.cap_trace.specs.declared.calls.FdCall.TheVariants.{Pwritev, Lseek, Fs
 use Rattle.cap_trace.specs.declared.calls.FdCall.TheVariants.{Dup}
 use Rattle.cap_trace.specs.declared.calls.BareCall.{BareCall}
 use Rattle.cap_trace.specs.declared.calls.BareCall.TheVariants.{Fork, CapEnter}
+use Rattle.cap_trace.specs.declared.calls.NeedsMarker.{NeedsMarker}
+use Rattle.cap_trace.specs.declared.calls.NeedsMarker.TheVariants.{Uses, Refused}
 use Rattle.cap_trace.specs.Entry.{Entry}
 use Rattle.cap_machine.specs.declared.rule.Class.{Class}
 use Rattle.cap_machine.specs.declared.rule.Class.TheVariants.{Forbidden, Allowed, Either}
@@ -165,12 +167,35 @@ call_requirement (calls.OnFlags call flags) answer = on_none Either answer
 call_requirement (calls.Bare call) answer = on_none (bare_class call) answer
 call_requirement (calls.Other name args) answer = on_none Either answer
 
--- nothing is said of a marker
+-- ---- markers
+
+-- a marker of needs is judged like a call on one descriptor: one that succeeded, or one that errno 93 refused. That
+-- refusal is never called wrong
+abbrev pub needs_reply : NeedsMarker → Reply
+needs_reply Uses = Success
+needs_reply Refused = NotCapable
+
+abbrev pub needs_requirement : NeedsMarker → ℕ → ℕ → Requirement
+needs_requirement marker f rights = record {
+  class = Either;
+  checks = One (check_of f (without_full rights) None);
+  reply = needs_reply marker;
+  at = false;
+  word = Missing;
+}
+
+-- `@global()` is judged like a call that capability mode forbids, and that succeeded
+abbrev pub global_requirement : Requirement
+global_requirement = record { class = Forbidden; checks = Nothing; reply = Success; at = false; word = Missing }
+
+-- nothing is said of any other marker
 abbrev pub unjudged : Requirement
 unjudged = record { class = Either; checks = Nothing; reply = Other; at = false; word = Missing }
 
 abbrev pub item_requirement : Item → Requirement
 item_requirement (items.Call call answer) = call_requirement call answer
+item_requirement (items.Needs marker f rights) = needs_requirement marker f rights
+item_requirement items.Global = global_requirement
 item_requirement _ = unjudged
 
 -- what a line is judged by

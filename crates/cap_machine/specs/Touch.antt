@@ -232,6 +232,8 @@ abbrev pub item_touch : Profile → Item → ℕ → ℕ → ℕ → Touch
 item_touch profile (items.Start fds) me p f = if p == me then given (started fds f) else kept
 item_touch profile items.Exit me p f = if p == me then given Unknown else kept
 item_touch profile (items.Foreign g) me p f = on_fd g (given Unknown) me p f
+item_touch profile (items.Needs marker g rights) me p f = kept
+item_touch profile items.Global me p f = kept
 item_touch profile (items.Call call answer) me p f = call_touch profile call answer me p f
 
 -- what a step does to descriptor f of process p
@@ -266,6 +268,8 @@ abbrev pub item_turn : Item → ℕ → ℕ → Turn
 item_turn (items.Start fds) me p = if p == me then turns Outside else stays
 item_turn items.Exit me p = if p == me then turns Unsure else stays
 item_turn (items.Foreign g) me p = stays
+item_turn (items.Needs marker g rights) me p = stays
+item_turn items.Global me p = stays
 item_turn (items.Call call answer) me p = call_turn call answer me p
 
 -- what a step does to the mode of process p; in both profiles the same

@@ -17,7 +17,7 @@ use crate::rule::Checks;
 use crate::start::Start;
 use crate::table::Table;
 use cap_rights::NoMemory;
-use cap_trace::{Answer, Item, Line, LineRef};
+use cap_trace::{Answer, Item, Line, LineRef, NeedsMarker};
 use std::alloc::Global;
 
 impl Table {
@@ -46,6 +46,7 @@ pub(crate) fn was_let_through(line: &LineRef<'_>) -> bool
 {
     match &line.item {
         Item::Call { call: _, answer } => !matches!(answer, Answer::Fault(ENOTCAPABLE | ECAPMODE)),
+        Item::Needs(NeedsMarker::Refused, _, _) => false,
         _ => true,
     }
 }

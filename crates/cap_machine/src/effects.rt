@@ -415,5 +415,7 @@ pub(crate) fn effect_of_line<'a>(profile: Profile, line: &LineRef<'a>) -> Effect
         Item::Start(fds) => Effect::Start(fds),
         Item::Exit => Effect::Exit,
         Item::Foreign(fd) => Effect::Give(*fd, Cell::Unknown),
+        Item::Needs(_, _, _) => Effect::Keep,
+        Item::Global => Effect::Keep,
     }
 }

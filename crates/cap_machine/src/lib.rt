@@ -81,7 +81,7 @@ pub use limit_laws::{
     all_limits_are_enough, all_limits_are_least, blocked_is_forbidden, limits_are_enough,
     limits_are_least,
 };
-pub use limits::{Entering, Limits, limits_before, live_after, machine_after};
+pub use limits::{Entering, Limits, LimitsBefore, limits_before, live_after, machine_after};
 pub use live::LiveRights;
 pub use machine::Machine;
 pub use makers::{MakerLimit, limits_of_makers};

@@ -7,7 +7,7 @@ ghost use Rattle.cap_machine.specs.History.{ended};
 ghost use Rattle.cap_machine.specs.State.{start_state};
 ghost use Rattle.cap_machine.specs.Code.LiveRights.{AreLive, AreBlocked};
 ghost use Rattle.cap_machine.specs.Limits.{IsEntering};
-ghost use Rattle.cap_machine.specs.LimitsBefore.{AreLimitsOf, AreLimitsBefore};
+ghost use Rattle.cap_machine.specs.LimitsBefore.{AreLimitsOf, AreLimitsBefore, begins};
 
 use crate::cell::{Mode, Profile};
 use crate::limit::{Limit, limits_among};
@@ -17,7 +17,7 @@ use crate::standing::standing_fds;
 use crate::start::Start;
 use crate::unknown::unknown_limits;
 use cap_rights::NoMemory;
-use cap_trace::{Line, Pid};
+use cap_trace::{Item, Line, LineRef, Pid};
 use std::alloc::Global;
 
 /// Whether a process may enter capability mode.
@@ -101,6 +101,24 @@ pub struct Limits {
     pub entering: Entering,
 }
 
+/// What may be put in before a line.
+#[derive(Drop)]
+pub enum LimitsBefore {
+    /// There is no such line.
+    NoLine,
+    /// This process begins there, by `@start`, which would undo a limit and cap_enter(2) before it.
+    Begins(Pid),
+    /// These limits of its process.
+    Limits(Limits),
+}
+
+/// Whether a process begins with a line.
+fn is_beginning(line: &LineRef<'_>) -> bool
+    ensures { result ≡ begins line.now.item }
+{
+    matches!(&line.item, Item::Start(_))
+}
+
 /// The limits of a process between these lines.
 fn limits_of(
     alloc: Global,
@@ -128,8 +146,8 @@ fn limits_of(
     })
 }
 
-/// The least rights of the descriptors of the process of a line before that line, by the line's position, from 1; none
-/// where there is no such line.
+/// The least rights of the descriptors of the process of a line before that line, by the line's position, from 1. Where
+/// the process begins with that line there are none.
 ///
 /// It goes through the lines before it twice, and once through the others. `NoMemory` when out of memory.
 pub fn limits_before(
@@ -138,18 +156,22 @@ pub fn limits_before(
     start: &Start,
     lines: &[Line],
     at: usize,
-) -> Result<Option<Limits>, NoMemory>
+) -> Result<LimitsBefore, NoMemory>
     ensures { IfOk result (AreLimitsBefore profile start.now lines.now at) }
 {
     if at == 0 || lines.len() < at {
-        return Ok(None);
+        return Ok(LimitsBefore::NoLine);
     }
     let (before, later) = lines.split_at(at - 1);
     match later.split_first() {
         Some((line, _)) => {
-            let limits = limits_of(alloc, profile, start, before, later, line.pid())?;
-            Ok(Some(limits))
+            let pid = line.pid();
+            if is_beginning(&line.view()) {
+                return Ok(LimitsBefore::Begins(pid));
+            }
+            let limits = limits_of(alloc, profile, start, before, later, pid)?;
+            Ok(LimitsBefore::Limits(limits))
         }
-        None => Ok(None),
+        None => Ok(LimitsBefore::NoLine),
     }
 }

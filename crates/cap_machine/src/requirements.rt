@@ -11,13 +11,14 @@ ghost use Rattle.cap_machine.specs.Code.PlaceView.{place_view};
 ghost use Rattle.cap_machine.specs.Rule.{check_of, on_one, on_none, fd_class, fd_requirement, fcntl_requirement};
 ghost use Rattle.cap_machine.specs.Rule.{limit_requirement};
 ghost use Rattle.cap_machine.specs.Rule.{bare_class, at_requirement, call_requirement, requirement, unjudged};
+ghost use Rattle.cap_machine.specs.Rule.{needs_requirement, global_requirement};
 
 use crate::cell::without_full_of;
 use crate::needs;
 use crate::places::{Place, at_one, at_two};
 use crate::rule::{Check, Checks, Class, LimitWord, Reply, Requirement, reply_of};
 use cap_rights::RightSet;
-use cap_trace::{Answer, AtFlagsCall, BareCall, Call, Dir, Fd, FdCall, Item, LineRef};
+use cap_trace::{Answer, AtFlagsCall, BareCall, Call, Dir, Fd, FdCall, Item, LineRef, NeedsMarker};
 
 /// Whether capability mode allows a call on one descriptor.
 fn fd_class_of(call: FdCall) -> Class
@@ -225,17 +226,53 @@ fn link_at(
     at_two(needs::has_plain_link_flags(flags), &from, &to, answer)
 }
 
+/// `@uses`, `@refused`: like a call on one descriptor, one that succeeded or one that errno 93 refused. That refusal is
+/// never judged.
+fn needs_requirement_of(marker: NeedsMarker, fd: Fd, rights: &RightSet) -> Requirement
+    ensures { result ≡ needs_requirement marker fd rights.now }
+{
+    Requirement {
+        class: Class::Either,
+        checks: Checks::One(Check {
+            fd,
+            needs: without_full_of(rights),
+            excuse: None,
+        }),
+        reply: match marker {
+            NeedsMarker::Uses => Reply::Success,
+            NeedsMarker::Refused => Reply::NotCapable,
+        },
+        at: false,
+        word: LimitWord::Missing,
+    }
+}
+
+/// `@global`: like a call that capability mode forbids, and that succeeded.
+fn global_requirement_of() -> Requirement
+    ensures { result ≡ global_requirement }
+{
+    Requirement {
+        class: Class::Forbidden,
+        checks: Checks::Nothing,
+        reply: Reply::Success,
+        at: false,
+        word: LimitWord::Missing,
+    }
+}
+
 /// What a line is judged by.
 pub(crate) fn requirement_of_line(line: &LineRef<'_>) -> Requirement
     ensures { result ≡ requirement line.now }
 {
     match &line.item {
         Item::Call { call, answer } => requirement_of(call, answer),
-        _ => unjudged_requirement(),
+        Item::Needs(marker, fd, rights) => needs_requirement_of(*marker, *fd, rights),
+        Item::Global => global_requirement_of(),
+        Item::Start(_) | Item::Exit | Item::Foreign(_) => unjudged_requirement(),
     }
 }
 
-/// Nothing is said of a marker.
+/// Nothing is said of any other marker.
 fn unjudged_requirement() -> Requirement
     ensures { result ≡ unjudged }
 {

@@ -28,7 +28,7 @@ pub enum Reply {
     NotCapable,
     /// Errno 94, ECAPMODE: not permitted in capability mode.
     NotPermitted,
-    /// Another errno, or the line is a marker.
+    /// Another errno, or the line is a marker that isn't judged.
     Other,
 }
 

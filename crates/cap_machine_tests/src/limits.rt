@@ -3,8 +3,8 @@
 use crate::lines::lines_of;
 use crate::starts::rights_of;
 use cap_machine::{
-    Cell, Entering, Limit, Limits, LiveRights, MakerLimit, Mode, OnExec, Profile, Start,
-    limits_before, limits_of_makers,
+    Cell, Entering, Limit, Limits, LimitsBefore, LiveRights, MakerLimit, Mode, OnExec, Profile,
+    Start, limits_before, limits_of_makers,
 };
 use cap_rights::RightSet;
 use cap_trace::Line;
@@ -400,7 +400,7 @@ fn are_before(limits: &Limits, row: &BeforeRow) -> bool {
 /// Whether the limits before a line are those of a row.
 fn is_before(alloc: Global, start: &Start, lines: &[Line], row: &BeforeRow) -> bool {
     match limits_before(alloc, Profile::Two, start, lines, row.1) {
-        Ok(Some(limits)) => are_before(&limits, row),
+        Ok(LimitsBefore::Limits(limits)) => are_before(&limits, row),
         _ => false,
     }
 }
@@ -446,8 +446,20 @@ fn is_no_line(alloc: Global, at: usize) -> bool {
     match lines_of(alloc, TALLY) {
         Some(lines) => matches!(
             limits_before(alloc, Profile::Two, &start, &lines, at),
-            Ok(None)
+            Ok(LimitsBefore::NoLine)
         ),
+        None => false,
+    }
+}
+
+/// Whether a process begins with the line at a position, and so has no limits before it.
+fn is_beginning(alloc: Global, pid: u32, at: usize) -> bool {
+    let start = Start::unknown(alloc);
+    match lines_of(alloc, TALLY) {
+        Some(lines) => match limits_before(alloc, Profile::Two, &start, &lines, at) {
+            Ok(LimitsBefore::Begins(own)) => own == pid,
+            _ => false,
+        },
         None => false,
     }
 }
@@ -462,6 +474,7 @@ fn processes_are_limited_before_a_line(rt: HostRuntime) {
     }
     assert!(rt; is_no_line(rt.alloc(), 0));
     assert!(rt; is_no_line(rt.alloc(), 16));
+    assert!(rt; is_beginning(rt.alloc(), 2101, 1));
 }
 
 #[test]

@@ -3,8 +3,8 @@
 use crate::machine::{Before, CELLS, OnTrace, try_all};
 use crate::sessions::{Query, ask_each};
 use cap_machine::{
-    Cell, Entering, Limit, Limits, MakerLimit, NoMemory, OnExec, Profile, Start, limits_among,
-    limits_before, limits_of_makers, live_after, machine_after, standing_fds,
+    Cell, Entering, Limit, Limits, LimitsBefore, MakerLimit, NoMemory, OnExec, Profile, Start,
+    limits_among, limits_before, limits_of_makers, live_after, machine_after, standing_fds,
 };
 use cap_rights::{RightSet, parse_rights};
 use cap_trace::{Fd, Line};
@@ -134,12 +134,12 @@ fn are_before(limits: &Limits) -> bool {
 /// Whether they are answered so.
 fn limits_parent(alloc: Global, start: &Start, lines: &[Line]) -> Result<bool, NoMemory> {
     match limits_before(alloc, Profile::Two, start, lines, 4)? {
-        Some(limits) => {
+        LimitsBefore::Limits(limits) => {
             let is_right = are_before(&limits);
             drop(limits);
             Ok(is_right)
         }
-        None => Ok(false),
+        _ => Ok(false),
     }
 }
 

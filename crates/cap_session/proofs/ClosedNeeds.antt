@@ -168,6 +168,7 @@ call_checks _ answer fine = tt
 
 pub item_checks : (item : Item) → FineArgs (args_of item) → AllClosed (listed (item_requirement item).checks)
 item_checks (items.Call call answer) fine = call_checks call answer fine
+item_checks (items.Needs marker f rights) fine = (without_full_closed rights fine.1.0, tt)
 item_checks _ fine = tt
 
 -- ---- what checks need

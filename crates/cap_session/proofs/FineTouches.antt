@@ -382,6 +382,8 @@ item_fine Every profile items.Exit me p f args made every =
     if_fine Every me p f (p == me) (given Unknown) kept (λ _. nothing_fine Every me p f) tt
 item_fine Every profile (items.Foreign g) me p f args made every =
     fd_fine Every me p f g (given Unknown) args.0 (λ _. nothing_fine Every me p f)
+item_fine Every profile (items.Needs marker g rights) me p f args made every = tt
+item_fine Every profile items.Global me p f args made every = tt
 item_fine Every profile (items.Call call answer) me p f args made every =
     call_fine Every answer me p f profile call args made every
 

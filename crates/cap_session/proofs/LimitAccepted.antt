@@ -10,20 +10,21 @@ use Rattle.cap_trace.specs.Reading.{line_of}
 use Rattle.cap_trace.specs.Spelling.{canon}
 use Rattle.cap_machine.specs.Limits.{Row, row_of}
 use Rattle.cap_machine.specs.declared.limits.Limits.{Limits}
+use Rattle.cap_machine.specs.declared.limits.LimitsBefore.TheVariants as there
 use Rattle.cap_machine.specs.declared.limits.Entering.{Entering}
 use Rattle.cap_machine.specs.declared.limits.Entering.TheVariants.{Inside, Blocked, May}
 use Rattle.cap_machine.specs.declared.makers.MakerLimit.{MakerLimit}
 use Rattle.cap_session.specs.Replies.{refused_text}
 use Rattle.cap_session.specs.LimitScripts.{ScriptLine, comment, insertion, insertions, limit_line, makers_script}
-use Rattle.cap_session.specs.LimitScripts.{entering_line, unknown_lines}
+use Rattle.cap_session.specs.LimitScripts.{entering_line, unknown_lines, beginning_script}
 use Rattle.cap_session.specs.LimitScriptLaws.{Accepts, ok_text, all_ok, with_script, IsNamed}
 use Rattle.cap_session.specs.LimitStreams.{limits_script}
 use Rattle.cap_session.specs.LimitTextLaws.{LimitsBeforeAreAccepted, MakerLimitsAreAccepted}
-use Rattle.cap_session.proofs.LimitFacts.{process_facts}
+use Rattle.cap_session.proofs.LimitFacts.{process_facts, line_pid}
 use Rattle.cap_session.proofs.LimitLines.{named_read, enter_read}
 use Rattle.cap_session.proofs.MakerFacts.{maker_facts}
 use Rattle.cap_session.proofs.LimitPremises.{IsRow, IsMakerLimit, ProcessFacts}
-use Rattle.cap_session.proofs.LimitScripts.{process_accepted, makers_accepted}
+use Rattle.cap_session.proofs.LimitScripts.{nothing_accepted, beginning_accepted, process_accepted, makers_accepted}
 
 -- ---- all insertions are made
 
@@ -88,9 +89,19 @@ process_read t k limits facts =
     (unknown_read unknown (last ∷ []) (entering_read t limits.pid (k + length rows) limits.entering facts.pid))
 
 pub limits_before_are_accepted : LimitsBeforeAreAccepted
-limits_before_are_accepted profile start t k limits spelled proper are left replies run =
+limits_before_are_accepted profile start t k there.NoLine spelled proper are left replies run =
+    let accepts = nothing_accepted profile t left replies proper.1 run in
+    (accepts, λ ok. leaves t left [] replies tt accepts ok)
+limits_before_are_accepted profile start t k (there.Begins p) spelled proper are left replies run =
+    let (before, line, later, cut, place, begins, own) = are in
+    let long : length t ≡ length (before ++ line ∷ later) = ap (λ (u : List Entry). length u) cut in
+    let high : k ≤ length t = omega (arith, place, long, length-append before (line ∷ later)) in
+    let pid : IsPid p = subst IsPid (sym own) (line_pid t before later line cut proper.0) in
+    let accepts = beginning_accepted profile t left p k replies proper.1 high pid run in
+    (accepts, λ ok. leaves t left (beginning_script p k) replies tt accepts ok)
+limits_before_are_accepted profile start t k (there.Limits limits) spelled proper are left replies run =
     let facts = process_facts profile start t k limits spelled proper are in
-    let (before, line, later, cut, place, least) = are in
+    let (before, line, later, cut, place, least, no_start) = are in
     let long : length t ≡ length (before ++ line ∷ later) = ap (λ (u : List Entry). length u) cut in
     let high : k ≤ length t = omega (arith, place, long, length-append before (line ∷ later)) in
     let accepts = process_accepted profile t left k limits replies proper.1 (omega (arith, place)) high facts run in

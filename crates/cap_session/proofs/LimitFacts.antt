@@ -14,6 +14,7 @@ use Rattle.cap_machine.specs.declared.cell.Profile.{Profile}
 use Rattle.cap_machine.specs.declared.limits.Entering.{Entering}
 use Rattle.cap_machine.specs.declared.limits.Entering.TheVariants.{Inside, Blocked, May}
 use Rattle.cap_machine.specs.declared.limits.Limits.{Limits}
+use Rattle.cap_machine.specs.declared.limits.LimitsBefore.TheVariants as there
 use Rattle.cap_machine.specs.declared.step.Step.{Step}
 use Rattle.cap_machine.specs.History.{ended}
 use Rattle.cap_machine.specs.Judge.{is_forbidden}
@@ -150,8 +151,14 @@ parts_proper (line ∷ before) rest are =
     let more = parts_proper before rest (All-tail IsProper line (before ++ rest) are) in
     (All-cons IsProper line before (All-head IsProper line (before ++ rest) are) more.0, more.1)
 
+pub line_pid : (t before later : List Entry) (line : Entry) → t ≡ before ++ line ∷ later → All IsProper t
+    → IsPid line.pid
+line_pid t before later line cut proper =
+    let parts = parts_proper before (line ∷ later) (All-same IsProper (before ++ line ∷ later) t (sym cut) proper) in
+    (All-head IsProper line later parts.1).1.1.pid
+
 pub process_facts : (profile : Profile) (start : List Added) (t : List Entry) (k : ℕ) (limits : Limits)
-    → IsSpelledStart start → IsTrace t → AreLimitsBefore profile start t k (Some limits) → ProcessFacts t limits
+    → IsSpelledStart start → IsTrace t → AreLimitsBefore profile start t k (there.Limits limits) → ProcessFacts t limits
 process_facts profile start t k limits spelled trace are =
     let before = are.0 in
     let line = are.1 in

@@ -41,7 +41,7 @@ use Rattle.cap_session.specs.LimitScripts.{ScriptLine, comment, insertion, bytes
 use Rattle.cap_machine.specs.declared.limits.Entering.{Entering}
 use Rattle.cap_machine.specs.declared.limits.Entering.TheVariants.{Inside, Blocked, May}
 use Rattle.cap_session.specs.LimitScripts.{limit_line, enter_line, makers_script, process_script}
-use Rattle.cap_session.specs.LimitScripts.{place_words, unknown_words, inside_words}
+use Rattle.cap_session.specs.LimitScripts.{place_words, begins_words, beginning_script, unknown_words, inside_words}
 use Rattle.cap_session.specs.LimitScripts.{blocked_words, call_text, entering_line, unknown_lines}
 use Rattle.cap_session.specs.LimitScriptLaws.{Accepts, ok_text}
 use Rattle.cap_session.specs.LimitStreams.{limits_script}
@@ -330,6 +330,8 @@ item_listed (items.Call c a) h = call_listed c a h
 item_listed (items.Start fs) h = absurd cc
 item_listed items.Exit h = absurd cc
 item_listed (items.Foreign f) h = absurd cc
+item_listed (items.Needs m f r) h = absurd cc
+item_listed items.Global h = (forms.Global, refl)
 
 name_short : (line : Entry) → is_forbidden (requirement line).class ≡ true
     → is_short_name (name_of (head_of line.item)) ≡ true
@@ -406,6 +408,26 @@ process_fits t p k rows unknown e few low high some pid known others stands = (
       (entering_fits t (length t + length rows) p (k + length rows) e stands few pid (omega (arith, low))
       (omega (arith, high)) (omega (arith, high, few, some)))),
 )
+
+begins_fits : (p k : ℕ) → p ≤ 99999 → k ≤ 1000000 → FitsComment (begins_words p k)
+begins_fits p k pid at = words_fit (begins_words p k)
+    (and_from _ _ (no_lf_decimal k (omega (arith, at))) (and_from _ _ (no_lf_decimal p (omega (arith, pid))) refl))
+    (omega (arith, decimal_short p (omega (arith, pid)), decimal_short k (omega (arith, at))))
+
+-- so too of no line at all
+pub nothing_accepted : (profile : Profile) (t left : List Entry) (replies : List ℕ) → length t ≤ most_lines
+    → Run profile t (lines (script_text [])) replies left → Accepts t [] replies left
+nothing_accepted profile t left replies few run = text_accepted profile t left [] replies few tt run
+
+-- and where the process begins
+pub beginning_accepted : (profile : Profile) (t left : List Entry) (p k : ℕ) (replies : List ℕ)
+    → length t ≤ most_lines → k ≤ length t → IsPid p
+    → Run profile t (lines (script_text (beginning_script p k))) replies left
+    → Accepts t (beginning_script p k) replies left
+beginning_accepted profile t left p k replies few high pid run =
+    let place = place_fits p k pid.1 (omega (arith, high, few)) in
+    let begins = begins_fits p k pid.1 (omega (arith, high, few)) in
+    text_accepted profile t left (beginning_script p k) replies few (place, (begins, tt)) run
 
 -- so too of this
 pub process_accepted : (profile : Profile) (t left : List Entry) (k : ℕ) (limits : Limits) (replies : List ℕ)

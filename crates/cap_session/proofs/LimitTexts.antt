@@ -12,7 +12,7 @@ use Rattle.cap_trace.specs.Entry.{Entry}
 use Rattle.cap_machine.specs.Limits.{Row, row_of}
 use Rattle.cap_machine.specs.declared.limit.Limit.{Limit}
 use Rattle.cap_session.specs.LimitScripts.{ScriptLine, insertion, comment, insertions, limit_line, maker_line, maker_lines}
-use Rattle.cap_session.specs.LimitScripts.{enter_line, words_of, script_text, place_words, unknown_lines, unknown_words}
+use Rattle.cap_session.specs.LimitScripts.{enter_line, words_of, script_text, begins_words, place_words, unknown_lines, unknown_words}
 
 parts : (o i k f c r e z n : List ℕ)
     → (((o ++ i) ++ (k ++ (f ++ c))) ++ r) ++ (e ++ (z ++ n))
@@ -139,6 +139,18 @@ pub place_put : (pid at n : ℕ) (o o1 o2 o3 : List ℕ) → n ≡ pid
 place_put pid at n o o1 o2 o3 same e1 e2 e3 =
     two_put o (codes "# process ") (decimal pid) (codes " before line ") (decimal at) (codes "\n") o1 o2 o3
     (rw same at e1) e2 e3
+
+begins_parts : (k b p c n : List ℕ) → (k ++ (b ++ p)) ++ (c ++ n) ≡ (k ++ (b ++ (p ++ c))) ++ n
+begins_parts k b p c n = simp append_assoc
+
+pub begins_put : (pid at n : ℕ) (o o1 o2 o3 : List ℕ) → n ≡ pid
+    → o1 ≡ o ++ (codes "# line " ++ (decimal at ++ codes " is where process ")) → o2 ≡ o1 ++ decimal n
+    → o3 ≡ o2 ++ codes " begins\n" → o3 ≡ o ++ line_text (comment (begins_words pid at))
+begins_put pid at n o o1 o2 o3 same e1 e2 e3 =
+    two_put o (codes "# line ") (decimal at) (codes " is where process ") (decimal pid) (codes " begins\n") o1 o2 o3
+    e1 (rw same at e2) e3
+    ∙ ap (λ (l : List ℕ). o ++ (codes "# line " ++ l))
+    (begins_parts (decimal at) (codes " is where process ") (decimal pid) (codes " begins") (codes "\n"))
 
 pub needed_put : (row : Row) (n : ℕ) (o o1 o2 o3 : List ℕ) → n ≡ row.0
     → o1 ≡ o ++ (codes "# descriptor " ++ (decimal n ++ codes " isn't known; later calls need "))

@@ -1,13 +1,14 @@
 -- What the lines of the script of a process do to a check of the trace.
 use Rattle.std.proofs.Common.{◌≡◌, ℕ, suc, ◌+◌, ◌-◌, ◌<◌, Bool, true, false, List, [], ◌∷◌, ◌++◌, length, map, refl}
 use Rattle.std.proofs.Common.{sym, ap, ◌∙◌, subst, inl, inr, arith, length-append, if◌then◌else◌}
-use Rattle.std.specs.Prelude.{Some, insert}
+use Rattle.std.specs.Prelude.{insert}
 use Rattle.std.specs.List.{All, IsAmong}
 use Rattle.std.proofs.lemmas.List.{length-map, map-append}
 use Rattle.cap_rights.specs.Rights.{holds}
 use Rattle.cap_trace.specs.Entry.{Entry}
 use Rattle.cap_machine.specs.declared.cell.Profile.{Profile}
 use Rattle.cap_machine.specs.declared.limits.Limits.{Limits}
+use Rattle.cap_machine.specs.declared.limits.LimitsBefore.TheVariants as there
 use Rattle.cap_machine.specs.declared.limits.Entering.{Entering}
 use Rattle.cap_machine.specs.declared.limits.Entering.TheVariants.{Inside, Blocked, May}
 use Rattle.cap_machine.specs.declared.step.Step.{Step}
@@ -47,8 +48,8 @@ record Place (profile : Profile) (start : List Added) (t : List Entry) (k : ℕ)
       limits.entering
 
 place : (profile : Profile) (start : List Added) (t : List Entry) (k : ℕ) (limits : Limits)
-    → AreLimitsBefore profile start t k (Some limits) → Place profile start t k limits
-place profile start t k limits (before, line, others, cut, position, are) =
+    → AreLimitsBefore profile start t k (there.Limits limits) → Place profile start t k limits
+place profile start t k limits (before, line, others, cut, position, are, no_start) =
     let s = ended (start_state start) (steps profile before) in
     let after : List Entry = line ∷ others in
     record {

@@ -4,6 +4,11 @@
 --     insert 4 2101 cap_rights_limit(3,CAP_READ|CAP_SEEK) RET 0
 --     # descriptor 5 isn't known; later calls need CAP_READ
 --     # no cap_enter: line 5, openat of process 2102
+--
+-- Before the line where a process begins nothing is inserted:
+--
+--     # process 2101 before line 1
+--     # line 1 is where process 2101 begins
 use Rattle.std.specs.Prelude.{ℕ, ◌+◌, ◌-◌, List, [], ◌∷◌, ◌++◌, length, map, flat_map, codes, decimal}
 use Rattle.std.specs.Prelude.{Option, Some, None}
 use Rattle.std.specs.List.{slice_get, join_with_byte}
@@ -105,3 +110,12 @@ abbrev pub process_script : List Entry → ℕ → ℕ → List Row → List Row
 process_script trace p k rows unknown entering =
     comment (place_words p k) ∷ insertions k (map (limit_line p) rows)
     ++ (unknown_lines unknown ++ entering_line trace p (k + length rows) entering ∷ [])
+
+-- ---- of one process, before the line where it begins
+
+-- `line 1 is where process 2101 begins`
+abbrev pub begins_words : ℕ → ℕ → List (List ℕ)
+begins_words p k = codes "line" ∷ decimal k ∷ codes "is where process" ∷ decimal p ∷ codes "begins" ∷ []
+
+abbrev pub beginning_script : ℕ → ℕ → List ScriptLine
+beginning_script p k = comment (place_words p k) ∷ comment (begins_words p k) ∷ []

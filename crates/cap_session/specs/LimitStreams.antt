@@ -1,8 +1,10 @@
 -- What the limits of a trace say of it: the script of limits, which comes in the outcome Clean.
-use Rattle.std.specs.Prelude.{◌≡◌, ◌⊎◌, ◌<◌, ℕ, List, length, map, Option, Some, None}
+use Rattle.std.specs.Prelude.{◌≡◌, ◌⊎◌, ◌<◌, ℕ, List, [], length, map, Option, Some, None}
 use Rattle.cap_trace.specs.Entry.{Entry}
 use Rattle.cap_machine.specs.declared.cell.Profile.{Profile}
 use Rattle.cap_machine.specs.declared.limits.Limits.{Limits}
+use Rattle.cap_machine.specs.declared.limits.LimitsBefore.{LimitsBefore}
+use Rattle.cap_machine.specs.declared.limits.LimitsBefore.TheVariants as there
 use Rattle.cap_machine.specs.declared.makers.MakerLimit.{MakerLimit}
 use Rattle.cap_machine.specs.Limits.{row_of}
 use Rattle.cap_machine.specs.LimitsBefore.{AreLimitsBefore}
@@ -10,7 +12,7 @@ use Rattle.cap_machine.specs.Makers.{AreMakerLimits}
 use Rattle.cap_machine.specs.State.{Added, start_state}
 use Rattle.cap_machine.specs.Steps.{steps}
 use Rattle.cap_session.specs.AnswerStreams.{Says}
-use Rattle.cap_session.specs.LimitScripts.{ScriptLine, script_text, makers_script, process_script}
+use Rattle.cap_session.specs.LimitScripts.{ScriptLine, script_text, makers_script, process_script, beginning_script}
 use Rattle.cap_session.specs.Replies.{refused_text}
 use Rattle.cap_session.specs.declared.outcome.Outcome.TheVariants as outcomes
 use Rattle.cap_session.specs.declared.outcome.ExplainOutcome.TheVariants.{Ended, OutOfRange}
@@ -20,17 +22,25 @@ abbrev pub limits_script : List Entry → ℕ → Limits → List ScriptLine
 limits_script t k limits = process_script t limits.pid k (map row_of limits.held.items) (map row_of limits.unknown.items)
     limits.entering
 
+-- the script of what may be put in before line k
+abbrev pub before_script : List Entry → ℕ → LimitsBefore → List ScriptLine
+before_script t k (there.Limits limits) = limits_script t k limits
+before_script t k (there.Begins p) = beginning_script p k
+before_script t k there.NoLine = []
+
 -- The text is the script of the least rights of each descriptor that the trace makes, from a start in a profile.
 pub record IsMakersText (profile : Profile) (start : List Added) (t : List Entry) (text : List ℕ) : Type 0 where
   pub limits : List MakerLimit
   pub least : AreMakerLimits (start_state start) 1 (steps profile t) limits
   pub is : text ≡ script_text (makers_script limits)
 
--- The text is the script of the least rights of the descriptors of the process of line k, before that line.
+-- The text is the script of the least rights of the descriptors of the process of line k, before that line; where the
+-- process begins there, it says so.
 pub record IsProcessText (profile : Profile) (start : List Added) (t : List Entry) (k : ℕ) (text : List ℕ) : Type 0 where
-  pub limits : Limits
-  pub least : AreLimitsBefore profile start t k (Some limits)
-  pub is : text ≡ script_text (limits_script t k limits)
+  pub limits : LimitsBefore
+  pub least : AreLimitsBefore profile start t k limits
+  pub there_is_one : limits ≡ there.NoLine → ⊥
+  pub is : text ≡ script_text (before_script t k limits)
 
 -- after the lines that made descriptors, or before a line
 abbrev pub IsLimitsText : Profile → Option ℕ → List Added → List Entry → List ℕ → Type 0

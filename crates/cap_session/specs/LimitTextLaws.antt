@@ -1,7 +1,7 @@
 -- What `edit` makes of the script that `limits` answers: each line of it is accepted; no line has a finding that it didn't
 -- have before; and with any right less, some line has one.
 use Rattle.std.specs.Prelude.{◌≡◌, ℕ, ◌+◌, ◌<◌, ◌≤◌, nat_lt, if◌then◌else◌, List, [], ◌∷◌, ◌++◌, length, map}
-use Rattle.std.specs.Prelude.{Ok, Some, true, false}
+use Rattle.std.specs.Prelude.{Ok, true, false}
 use Rattle.std.specs.List.{All, IsAmong}
 use Rattle.cap_rights.specs.Rights.{holds}
 use Rattle.cap_trace.specs.Entry.{Entry, IsFd}
@@ -10,6 +10,8 @@ use Rattle.cap_machine.specs.declared.cell.Cell.{Cell}
 use Rattle.cap_machine.specs.declared.cell.Cell.TheVariants.{Unknown, Closed, Held}
 use Rattle.cap_machine.specs.declared.cell.Profile.{Profile}
 use Rattle.cap_machine.specs.declared.limits.Limits.{Limits}
+use Rattle.cap_machine.specs.declared.limits.LimitsBefore.{LimitsBefore}
+use Rattle.cap_machine.specs.declared.limits.LimitsBefore.TheVariants as there
 use Rattle.cap_machine.specs.declared.limits.Entering.TheVariants.{Blocked}
 use Rattle.cap_machine.specs.declared.makers.MakerLimit.{MakerLimit}
 use Rattle.cap_machine.specs.declared.verdict.Finding.TheVariants.{Forbidden}
@@ -26,7 +28,7 @@ use Rattle.cap_session.specs.Lines.{lines}
 use Rattle.cap_session.specs.LimitScriptLaws.{Accepts, IsNamed, all_ok, with_script}
 use Rattle.cap_session.specs.LimitScripts.{ScriptLine, insertion, limit_line, enter_line, script_text}
 use Rattle.cap_session.specs.LimitScripts.{makers_script, insertions, entering_line}
-use Rattle.cap_session.specs.LimitStreams.{limits_script}
+use Rattle.cap_session.specs.LimitStreams.{limits_script, before_script}
 use Rattle.cap_session.specs.Scripts.{Run}
 use Rattle.cap_session.specs.StartTexts.{described_by}
 use Rattle.cap_session.specs.Trace.{trace}
@@ -66,9 +68,9 @@ EditAccepts profile t script = (left : List Entry) (replies : List ℕ) → Run 
     → Accepts t script replies left × (replies ≡ all_ok t script → left ≡ with_script t script)
 
 abbrev pub LimitsBeforeAreAccepted : Type 0
-LimitsBeforeAreAccepted = (profile : Profile) (start : List Added) (t : List Entry) (k : ℕ) (limits : Limits)
-    → IsSpelledStart start → IsTrace t → AreLimitsBefore profile start t k (Some limits)
-    → EditAccepts profile t (limits_script t k limits)
+LimitsBeforeAreAccepted = (profile : Profile) (start : List Added) (t : List Entry) (k : ℕ) (limits : LimitsBefore)
+    → IsSpelledStart start → IsTrace t → AreLimitsBefore profile start t k limits
+    → EditAccepts profile t (before_script t k limits)
 
 abbrev pub MakerLimitsAreAccepted : Type 0
 MakerLimitsAreAccepted = (profile : Profile) (start : List Added) (t : List Entry) (limits : List MakerLimit)
@@ -97,7 +99,7 @@ checked profile start t = check (start_state start) (steps profile t)
 -- Enough: with the script in it, the trace has only findings that it had before, at the lines where they were.
 abbrev pub LimitsBeforeAreEnough : Type 0
 LimitsBeforeAreEnough = (profile : Profile) (start : List Added) (t : List Entry) (k : ℕ) (limits : Limits)
-    → IsSpelledStart start → IsTrace t → AreLimitsBefore profile start t k (Some limits)
+    → IsSpelledStart start → IsTrace t → AreLimitsBefore profile start t k (there.Limits limits)
     → let script = limits_script t k limits in
     All (IsAmong (map (moved k (lines_put script)) (checked profile start t)))
     (checked profile start (with_script t script))
@@ -112,7 +114,7 @@ lines_before t k limits rows = insertions k (map (limit_line limits.pid) rows)
 abbrev pub LimitsBeforeAreLeast : Type 0
 LimitsBeforeAreLeast = (profile : Profile) (start : List Added) (t : List Entry) (k : ℕ) (limits : Limits)
     (some more : List Row) (f rights fewer right : ℕ)
-    → IsSpelledStart start → IsTrace t → AreLimitsBefore profile start t k (Some limits)
+    → IsSpelledStart start → IsTrace t → AreLimitsBefore profile start t k (there.Limits limits)
     → map row_of limits.held.items ≡ some ++ (f, rights) ∷ more
     → right < 63 → holds rights right ≡ true → holds fewer right ≡ false
     → NewlyLacks (checked profile start (with_script t (lines_before t k limits (some ++ (f, fewer) ∷ more))))
@@ -121,7 +123,7 @@ LimitsBeforeAreLeast = (profile : Profile) (start : List Added) (t : List Entry)
 -- Entering: where a line is in the way, that line is forbidden once the process has entered, and wasn't before.
 abbrev pub EnteringBeforeIsForbidden : Type 0
 EnteringBeforeIsForbidden = (profile : Profile) (start : List Added) (t : List Entry) (k n : ℕ) (limits : Limits)
-    → IsSpelledStart start → IsTrace t → AreLimitsBefore profile start t k (Some limits)
+    → IsSpelledStart start → IsTrace t → AreLimitsBefore profile start t k (there.Limits limits)
     → limits.entering ≡ Blocked n
     → IsAmong (checked profile start (with_script t (insertion k (enter_line limits.pid) ∷ []))) (found_at (n + 1) Forbidden)
     × (IsAmong (checked profile start t) (found_at n Forbidden) → ⊥)

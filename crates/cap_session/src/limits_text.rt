@@ -9,13 +9,15 @@ ghost use Rattle.cap_machine.specs.declared.makers.MakerLimit.{MakerLimit};
 ghost use Rattle.cap_session.specs.LimitScripts.{limit_line, enter_line, maker_line, maker_lines, words_of, comment};
 ghost use Rattle.cap_session.specs.LimitScripts.{insertion, insertions, script_text, place_words, unknown_words};
 ghost use Rattle.cap_session.specs.LimitScripts.{unknown_lines, inside_words, blocked_words, call_text, entering_line};
+ghost use Rattle.cap_session.specs.LimitScripts.{begins_words, beginning_script};
 ghost use Rattle.cap_session.specs.LimitStreams.{limits_script, IsMakersText, IsProcessText, IsLimitsText, IsOutside};
 
 use crate::refused::Refused;
 use crate::trace::is_position;
 use crate::wording::put_between;
 use cap_machine::{
-    Entering, Limit, Limits, MakerLimit, NoMemory, Profile, Start, limits_before, limits_of_makers,
+    Entering, Limit, Limits, LimitsBefore, MakerLimit, NoMemory, Profile, Start, limits_before,
+    limits_of_makers,
 };
 use cap_rights::{RightSet, write_rights};
 use cap_trace::{Fd, Line, Pid, put_number};
@@ -148,6 +150,16 @@ fn put_inside(out: &mut Vec<u8>, pid: Pid) -> Result<(), NoMemory>
     put_between(out, b"# process ", u64::from(pid), is_inside)
 }
 
+/// Appends the comment that says that a process begins with the line at a position.
+fn put_beginning(out: &mut Vec<u8>, pid: Pid, at: usize) -> Result<(), NoMemory>
+    ensures { OnOk result (out.new.items ≡ out.old.items ++ line_of_words (words_of (comment (begins_words pid at)))) }
+{
+    put_between(out, b"# line ", at as u64, b" is where process ")?;
+    put_number(out, u64::from(pid))?;
+    out.extend_from_slice(b" begins\n")?;
+    Ok(())
+}
+
 /// Appends the call and the process of the line that is in the way.
 fn put_call(out: &mut Vec<u8>, line: Option<&Line>) -> Result<(), NoMemory>
     ensures { OnOk result (out.new.items ≡ out.old.items ++ call_text (option_copied line.entry)) }
@@ -212,6 +224,16 @@ fn limits_text(
     Ok(text)
 }
 
+/// The script before the line at a position, with which a process begins.
+fn beginning_text(alloc: Global, pid: Pid, at: usize) -> Result<Vec<u8>, NoMemory>
+    ensures { IfOk result (λ text. text.items ≡ script_text (beginning_script pid at)) }
+{
+    let mut text = Vec::new(alloc);
+    put_place(&mut text, pid, at)?;
+    put_beginning(&mut text, pid, at)?;
+    Ok(text)
+}
+
 /// Whether a position was asked for at which a trace of so many lines has none.
 pub fn is_outside(at: Option<usize>, count: usize) -> bool
     ensures { (lines : List Entry) → length lines ≡ count → IsTrue result ↔ IsOutside at lines }
@@ -237,10 +259,12 @@ fn process_text(
     if is_outside(Some(at), lines.len()) {
         return Err(Refused::Position);
     }
-    let Some(limits) = limits_before(alloc, profile, start, lines, at)? else {
-        return Err(Refused::Position);
-    };
-    Ok(limits_text(alloc, lines, at, &limits)?)
+    let limits = limits_before(alloc, profile, start, lines, at)?;
+    match limits {
+        LimitsBefore::NoLine => Err(Refused::Position),
+        LimitsBefore::Begins(pid) => Ok(beginning_text(alloc, pid, at)?),
+        LimitsBefore::Limits(limits) => Ok(limits_text(alloc, lines, at, &limits)?),
+    }
 }
 
 /// The script of the least rights of a trace: right after each line that made a descriptor; or before the line at a

@@ -176,7 +176,7 @@ insert 12 2102 cap_enter() RET 0\n",
     (b"", One, TALLY, Some(0), Err(Refused::Position)),
     (b"", One, TALLY, Some(15), Err(Refused::Position)),
     (b"", Two, (b"", 0), Some(1), Err(Refused::Position)),
-    // The first line and the last.
+    // The line where the process begins, and the last.
     (
         b"",
         One,
@@ -184,7 +184,7 @@ insert 12 2102 cap_enter() RET 0\n",
         Some(1),
         Ok(
             "# process 100 before line 1\n\
-insert 1 100 cap_enter() RET 0\n",
+# line 1 is where process 100 begins\n",
         ),
     ),
     (

@@ -1,5 +1,5 @@
 -- Asks that hold in every state, in none, or in some.
-use Rattle.std.specs.Prelude.{if◌then◌else◌, ◌&&◌, ◌||◌, ◌∷◌, ◌≡◌}
+use Rattle.std.specs.Prelude.{if◌then◌else◌, ◌∷◌, ◌≡◌}
 use Rattle.cap_summary.proofs.{TestPassing.none_lacks, TestPassing.own_rights, ap, arith, inl, inr, or_cases, ◌∙◌}
 use Rattle.cap_summary.specs.{Closed, Unknown, declared.ask.Ask.Ask, declared.key.Key.Key, has_all, list_all, list_any}
 use Rattle.cap_summary.specs.{Bool, Cell, Held, List, OnExec, State, [], false, none, refl, true, ℕ}

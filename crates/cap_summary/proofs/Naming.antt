@@ -251,6 +251,8 @@ module _ (profile : Profile) (me : ℕ) (line : LineEffect) where
   item_named (Item.Start fs) does = named_effects (step_of profile me (Item.Start fs)) line does
   item_named Item.Exit does = named_effects (step_of profile me Item.Exit) line does
   item_named (Item.Foreign g) does = named_effects (step_of profile me (Item.Foreign g)) line does
+  item_named (Item.Needs marker g rights) does = named_effects (step_of profile me (Item.Needs marker g rights)) line does
+  item_named Item.Global does = named_effects (step_of profile me Item.Global) line does
 
 pub named_one_by_one : (step : Step) (line : LineEffect)
     → ((p f : ℕ) → effect_touch line step.line.pid p f ≡ touch step p f)

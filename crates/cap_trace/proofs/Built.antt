@@ -9,7 +9,9 @@ use Rattle.cap_trace.specs.Call as calls
 use Rattle.cap_trace.specs.declared.calls.DupCommand.TheVariants as dup_commands
 use Rattle.cap_trace.specs.declared.calls.Form.TheVariants as forms
 use Rattle.cap_trace.specs.Names.{Head, listed, unlisted}
-use Rattle.cap_trace.specs.Entry.{Arg, an_fd, some_flags, a_command, a_word, Word, dest, set_fd, dup_to, fds}
+use Rattle.cap_trace.specs.declared.calls.NeedsMarker.{NeedsMarker}
+use Rattle.cap_trace.specs.Entry.{Arg, an_fd, some_flags, some_rights, a_command, a_word, Word, dest, set_fd, dup_to}
+use Rattle.cap_trace.specs.Entry.{fds}
 use Rattle.cap_trace.specs.Entry.{args_of_call, args_of, head_of_call, head_of, RisesFrom}
 use Rattle.cap_trace.specs.Spelling.{SpellsArgs, word_text}
 use Rattle.cap_trace.specs.Forms.{Slot, Shape, these, rising_fds, Event, a_call, a_marker, built, shape_of}
@@ -34,6 +36,8 @@ IsWholeEvent (a_marker (items.Start fs)) = RisesFrom 0 fs
 IsWholeEvent (a_marker (items.Call c a)) = ⊥
 IsWholeEvent (a_marker items.Exit) = Unit {0}
 IsWholeEvent (a_marker (items.Foreign f)) = Unit {0}
+IsWholeEvent (a_marker (items.Needs m f r)) = Unit {0}
+IsWholeEvent (a_marker items.Global) = Unit {0}
 
 pub record Says (h : Head) (given : List Arg) (s : Event) : Type 0 where
   pub args : event_args s ≡ given
@@ -55,6 +59,8 @@ says_more (Ok (a_marker (items.Start fs))) = true
 says_more (Ok (a_marker (items.Call c a))) = true
 says_more (Ok (a_marker items.Exit)) = false
 says_more (Ok (a_marker (items.Foreign f))) = false
+says_more (Ok (a_marker (items.Needs m f r))) = false
+says_more (Ok (a_marker items.Global)) = false
 says_more (Err d) = false
 
 built_args : (h : Head) (given : List Arg) → args_or given (built h given) ≡ given
@@ -82,6 +88,8 @@ whole_of (a_marker (items.Start fs)) e = absurd cc
 whole_of (a_marker (items.Call c a)) e = absurd cc
 whole_of (a_marker items.Exit) e = tt
 whole_of (a_marker (items.Foreign f)) e = tt
+whole_of (a_marker (items.Needs m f r)) e = tt
+whole_of (a_marker items.Global) e = tt
 
 built_takes : (h : Head) (given : List Arg) (s : Event) → built h given ≡ Ok s → Says h given s
 unfolding args_or head_or
@@ -191,3 +199,14 @@ pub foreign_again : (f : ℕ) (ts : List (List ℕ)) → SpellsArgs ts (an_fd f 
     → event_at (listed forms.Foreign) ts ≡ Ok (a_marker (items.Foreign f))
 unfolding event_at slot_of
 foreign_again f ts h = these_again (listed forms.Foreign) ts (an_fd f ∷ []) (a_marker (items.Foreign f)) _ refl refl h
+
+pub needs_again : (m : NeedsMarker) (f r : ℕ) (ts : List (List ℕ)) → SpellsArgs ts (an_fd f ∷ some_rights r ∷ [])
+    → event_at (listed (forms.Needs m)) ts ≡ Ok (a_marker (items.Needs m f r))
+unfolding event_at slot_of
+needs_again m f r ts h =
+    these_again (listed (forms.Needs m)) ts (an_fd f ∷ some_rights r ∷ []) (a_marker (items.Needs m f r)) _ refl refl h
+
+pub global_again : (ts : List (List ℕ)) → SpellsArgs ts []
+    → event_at (listed forms.Global) ts ≡ Ok (a_marker items.Global)
+unfolding event_at
+global_again ts h = these_again (listed forms.Global) ts [] (a_marker items.Global) _ refl refl h

@@ -1,7 +1,6 @@
 -- The canonical text of a line spells it.
 use Rattle.std.proofs.Common.{◌≡◌, ℕ, ◌+◌, ◌^◌, ◌<◌, ◌≤◌, ◌&&◌, Bool, true, false, List, [], ◌∷◌, ◌++◌, length, map}
 use Rattle.std.proofs.Common.{refl, sym, ap, subst, ◌∙◌, arith, length-append}
-use Rattle.std.specs.Prelude.{codes}
 use Rattle.std.specs.List.{join_with_byte}
 use Rattle.std.specs.Fmt.{decimal}
 use Rattle.std.proofs.lemmas.Fmt.{length-decimal-le}
@@ -17,10 +16,12 @@ use Rattle.cap_trace.specs.declared.line.Answer.{Answer}
 use Rattle.cap_trace.specs.declared.line.Answer.TheVariants as answers
 use Rattle.cap_trace.specs.declared.line.Dir.TheVariants as dirs
 use Rattle.cap_trace.specs.declared.calls.ResultKind.TheVariants.{Zero}
+use Rattle.cap_trace.specs.declared.calls.NeedsMarker.TheVariants as needs_markers
 use Rattle.cap_trace.specs.Entry.{Entry, Arg, an_fd, a_dir, some_rights, a_word}
-use Rattle.cap_trace.specs.Entry.{args_of, fds, IsAnswer, IsWhole}
+use Rattle.cap_trace.specs.Names.{name_of}
+use Rattle.cap_trace.specs.Entry.{args_of, head_of, fds, IsAnswer}
 use Rattle.cap_trace.specs.Spelling.{SpellsArg, SpellsArgs, SpellsBy, Spells, arg_text, answer_text, joined, canon}
-use Rattle.cap_trace.specs.Spelling.{IsProper}
+use Rattle.cap_trace.specs.Spelling.{IsProper, tail_text}
 
 -- what is written for an argument spells it
 arg_written : (t : List ℕ) (a : Arg) → SpellsArg t a → SpellsArg (arg_text a) a
@@ -95,38 +96,42 @@ parts_length p n a r = simp length-append (omega arith)
 two_length : (f t : List ℕ) → length (join_with_byte 44 (f ∷ t ∷ [])) ≡ length f + (length t + 1)
 two_length f t = simp length-append (omega arith)
 
-limit_short : (bytes : List ℕ) (e : Entry) (texts : List (List ℕ)) (x y : ℕ) (a : Answer)
-    → e.item ≡ items.Call (calls.RightsLimit x y) a → SpellsBy bytes e texts → length (canon e) ≤ 1024
-limit_short bytes e texts x y a i h =
-    let canon_is : canon e ≡ decimal e.pid ++ (32 ∷ (codes "cap_rights_limit"
-    ++ (40 ∷ (join_with_byte 44 (decimal x ∷ text y ∷ []) ++ (41 ∷ (codes " RET " ++ answer_text a)))))) =
-    ap (λ (j : Item). canon (record { pid = e.pid; item = j })) i in
-    let whole : IsAnswer Zero a = subst IsWhole i h.whole in
-    let given : SpellsArgs texts (an_fd x ∷ some_rights y ∷ []) =
-    subst (λ (j : Item). SpellsArgs texts (args_of j)) i h.args in
-    let long = parts_length (decimal e.pid) (codes "cap_rights_limit") (join_with_byte 44 (decimal x ∷ text y ∷ []))
-    (codes " RET " ++ answer_text a) in
+fd_small : (texts : List (List ℕ)) (x y : ℕ) → SpellsArgs texts (an_fd x ∷ some_rights y ∷ []) → x < 2 ^ 64
+fd_small [] x y h = absurd h
+fd_small (t ∷ ts) x y h = omega (arith, h.0.1)
+
+-- a line whose arguments are a descriptor and rights
+rights_short : (bytes : List ℕ) (p : ℕ) (i : Item) (texts : List (List ℕ)) (x y : ℕ)
+    → args_of i ≡ an_fd x ∷ some_rights y ∷ []
+    → length (name_of (head_of i)) ≤ 16 → length (tail_text i) ≤ 34
+    → SpellsBy bytes (record { pid = p; item = i }) texts → length (canon (record { pid = p; item = i })) ≤ 1024
+rights_short bytes p i texts x y is name tail h =
+    let canon_is : canon (record { pid = p; item = i }) ≡ decimal p ++ (32 ∷ (name_of (head_of i)
+    ++ (40 ∷ (join_with_byte 44 (decimal x ∷ text y ∷ []) ++ (41 ∷ tail_text i))))) =
+    ap (λ (given : List Arg). joined (record { pid = p; item = i }) (map arg_text given)) is in
+    let given : SpellsArgs texts (an_fd x ∷ some_rights y ∷ []) = subst (λ (some : List Arg). SpellsArgs texts some) is h.args in
+    let long = parts_length (decimal p) (name_of (head_of i)) (join_with_byte 44 (decimal x ∷ text y ∷ []))
+    (tail_text i) in
     let args = two_length (decimal x) (text y) in
     omega (
       arith,
       ap length canon_is,
       long,
       args,
-      decimal_short e.pid (omega (arith, h.pid.1)),
+      name,
+      tail,
+      decimal_short p (omega (arith, h.pid.1)),
       decimal_short x (fd_small texts x y given),
       text_is_short y,
-      zero_short a whole,
     )
-  where
-    fd_small : (texts : List (List ℕ)) (x y : ℕ) → SpellsArgs texts (an_fd x ∷ some_rights y ∷ []) → x < 2 ^ 64
-    fd_small [] x y h = absurd h
-    fd_small (t ∷ ts) x y h = omega (arith, h.0.1)
 
 short_call : (bytes : List ℕ) (p : ℕ) (c : Call) (a : Answer) (texts : List (List ℕ))
     → SpellsBy bytes (record { pid = p; item = items.Call c a }) texts
     → length (canon (record { pid = p; item = items.Call c a })) ≤ 1024
 unfolding is_settled
-short_call bytes p (calls.RightsLimit x y) a texts h = limit_short bytes _ texts x y a refl h
+short_call bytes p (calls.RightsLimit x y) a texts h =
+    rights_short bytes p (items.Call (calls.RightsLimit x y) a) texts x y refl (omega arith)
+    (omega (arith, zero_short a h.whole)) h
 short_call bytes p c a texts h = settled_short bytes _ texts refl h
 
 short_item : (bytes : List ℕ) (p : ℕ) (i : Item) (texts : List (List ℕ))
@@ -134,6 +139,10 @@ short_item : (bytes : List ℕ) (p : ℕ) (i : Item) (texts : List (List ℕ))
 unfolding is_settled
 short_item bytes p (items.Call c a) texts h = short_call bytes p c a texts h
 short_item bytes p (items.Start fs) texts h = settled_short bytes _ texts (fds_settled fs) h
+short_item bytes p (items.Needs needs_markers.Uses x y) texts h =
+    rights_short bytes p (items.Needs needs_markers.Uses x y) texts x y refl (omega arith) (omega arith) h
+short_item bytes p (items.Needs needs_markers.Refused x y) texts h =
+    rights_short bytes p (items.Needs needs_markers.Refused x y) texts x y refl (omega arith) (omega arith) h
 short_item bytes p i texts h = settled_short bytes _ texts refl h
 
 pub canon_spells : (e : Entry) → IsProper e → Spells (canon e) e

@@ -16,7 +16,9 @@ use Rattle.cap_trace.specs.Item.{Item}
 use Rattle.cap_trace.specs.Item as items
 use Rattle.cap_trace.specs.Call.{Call}
 use Rattle.cap_trace.specs.declared.line.Answer.{Answer}
-use Rattle.cap_trace.specs.Names.{Head, name_of, head_named}
+use Rattle.cap_trace.specs.declared.calls.NeedsMarker.{NeedsMarker}
+use Rattle.cap_trace.specs.declared.calls.Form.TheVariants as forms
+use Rattle.cap_trace.specs.Names.{Head, listed, name_of, head_named}
 use Rattle.cap_trace.specs.Fields.{are_items, is_plain, is_between, item_step, quoted}
 use Rattle.cap_trace.specs.Entry.{head_of, an_fd, a_dir, some_rights, a_command, free_text}
 use Rattle.cap_trace.specs.Entry.{Arg, IsPid, head_of_call, args_of_call, kind_of, a_path}
@@ -156,6 +158,15 @@ call_after {tail = tail} {c = c} {a = a} e b is_answer =
       };
       whole = k.1;
     }
+
+-- a marker of needs
+pub needs_after : {text tail : List ℕ} {m : NeedsMarker} {f r : ℕ} → Between text (an_fd f ∷ some_rights r ∷ []) tail
+    → tail ≡ [] → SpellsAfter (listed (forms.Needs m)) text (items.Needs m f r)
+needs_after {text = text} {f = f} {r = r} b e = record {
+  head = refl;
+  args = subst (λ (t : List ℕ). Between text (an_fd f ∷ some_rights r ∷ []) t) e b;
+  whole = tt;
+}
 
 -- how a line begins
 pub starts : {bytes text : List ℕ} (rest name : List ℕ) {p : ℕ} {h : Head} → length bytes ≤ 1024

@@ -16,17 +16,18 @@ use Rattle.cap_trace.specs.Item.{Item}
 use Rattle.cap_trace.specs.Item as items
 use Rattle.cap_trace.specs.declared.calls.ResultKind.{ResultKind}
 use Rattle.cap_trace.specs.declared.calls.ResultKind.TheVariants.{Same}
+use Rattle.cap_trace.specs.declared.calls.Form.{Form}
 use Rattle.cap_trace.specs.declared.calls.Form.TheVariants as forms
 use Rattle.cap_trace.specs.Names.{Head, listed, name_of, head_named}
 use Rattle.cap_trace.specs.Number.{num_at}
 use Rattle.cap_trace.specs.Quotes.{cut_at_byte, around}
 use Rattle.cap_trace.specs.Entry.{Entry, an_fd, some_rights, IsPid, IsFd, kind_of}
-use Rattle.cap_trace.specs.Forms.{Slot, fd, rights, free, shape_of, send_shape}
+use Rattle.cap_trace.specs.Forms.{Slot, these, fd, rights, free, shape_of, send_shape}
 use Rattle.cap_trace.specs.Forms.{fcntl_shape, Event, a_call, a_marker, built}
-use Rattle.cap_trace.specs.Reading.{◌>>=◌, need, after_prefix, pid_at, fd_at, rights_at, arg_at, args_at, event_at}
+use Rattle.cap_trace.specs.Reading.{◌>>=◌, need, after_prefix, pid_at, fd_at, rights_at, arg_at, args_at, shaped, event_at}
 use Rattle.cap_trace.specs.Reading.{same_at, result_at, made_at, answer_at, ended, args_and_tail, after_bracket}
 use Rattle.cap_trace.specs.Reading.{item_at, entry_at, line_of, fault}
-use Rattle.cap_trace.specs.Spoiled.{LongLineExactly, PidExactly, SpellsNoPid, RightOnlyOfLimits, LimitsByNoRights}
+use Rattle.cap_trace.specs.Spoiled.{LongLineExactly, PidExactly, SpellsNoPid, RightOnlyOfRights, HasNoRights, has_rights}
 use Rattle.cap_trace.proofs.Built.{slots_in}
 use Rattle.cap_trace.proofs.Cuts.{cut_takes}
 use Rattle.cap_trace.proofs.Numerals.{need_ok}
@@ -321,18 +322,19 @@ send_passes [] = refl
 send_passes (a ∷ []) = refl
 send_passes (a ∷ b ∷ more) = refl
 
-LimitOr : Head → Type 0
-LimitOr h =
-    (h ≡ listed forms.RightsLimit) ⊎ ((ts : List (List ℕ)) → passes_slots no_right (slots_in (shape_of h ts)) ≡ true)
+RightsOr : Head → Type 0
+RightsOr h = ((f : Form) × (h ≡ listed f) × (has_rights f ≡ true))
+    ⊎ ((ts : List (List ℕ)) → passes_slots no_right (slots_in (shape_of h ts)) ≡ true)
 
-limit_or : (h : Head) → LimitOr h
-unfolding LimitOr no_right
-limit_or (listed forms.RightsLimit) = inl refl
-limit_or (listed (forms.Send c)) = inr send_passes
-limit_or (listed forms.Fcntl) = inr fcntl_passes
-limit_or h = inr (λ ts. refl)
+rights_or : (h : Head) → RightsOr h
+unfolding RightsOr no_right
+rights_or (listed forms.RightsLimit) = inl (forms.RightsLimit, refl, refl)
+rights_or (listed (forms.Needs m)) = inl (forms.Needs m, refl, refl)
+rights_or (listed (forms.Send c)) = inr send_passes
+rights_or (listed forms.Fcntl) = inr fcntl_passes
+rights_or h = inr (λ ts. refl)
 
--- the arguments of a limit whose rights are wrong
+-- a descriptor and rights that are wrong
 pub record NoRights (texts : List (List ℕ)) : Type 0 where
   pub fd : ℕ
   pub rights : List ℕ
@@ -374,68 +376,74 @@ no_rights_here t u e =
           ]
     ]
 
-limit_args : (ts : List (List ℕ)) → length ts ≡ 2 → args_at (fd ∷ rights ∷ []) ts ≡ Err faults.Right → NoRights ts
+rights_args : (ts : List (List ℕ)) → length ts ≡ 2 → args_at (fd ∷ rights ∷ []) ts ≡ Err faults.Right → NoRights ts
 unfolding args_at
-limit_args [] n e = absurd (omega arith)
-limit_args (t ∷ []) n e = absurd (omega arith)
-limit_args (t ∷ u ∷ []) n e = no_rights_here t u e
-limit_args (t ∷ u ∷ v ∷ more) n e = absurd (omega arith)
+rights_args [] n e = absurd (omega arith)
+rights_args (t ∷ []) n e = absurd (omega arith)
+rights_args (t ∷ u ∷ []) n e = no_rights_here t u e
+rights_args (t ∷ u ∷ v ∷ more) n e = absurd (omega arith)
 
-limit_event : (ts : List (List ℕ)) → event_at (listed forms.RightsLimit) ts ≡ Err faults.Right → NoRights ts
-unfolding event_at
-limit_event ts e =
-    let k = counted_two (eqb (length ts) 2)
-    (args_at (fd ∷ rights ∷ []) ts >>= λ given. built (listed forms.RightsLimit) given) e in
-    elim (bind_err (args_at (fd ∷ rights ∷ []) ts)
-    (λ given. built (listed forms.RightsLimit) given) faults.Right k.1) as (λ _. NoRights ts) [
-      | inl h ↦ limit_args ts (eqb-true _ _ k.0) h
-      | inr h ↦ absurd (let no = built_err (listed forms.RightsLimit) h.0 faults.Right h.2 in cc)
+rights_shaped : (h : Head) (ts : List (List ℕ)) → shaped h (these (fd ∷ rights ∷ [])) ts ≡ Err faults.Right → NoRights ts
+rights_shaped h ts e =
+    let k = counted_two (eqb (length ts) 2) (args_at (fd ∷ rights ∷ []) ts >>= λ given. built h given) e in
+    elim (bind_err (args_at (fd ∷ rights ∷ []) ts) (λ given. built h given) faults.Right k.1) as (λ _. NoRights ts) [
+      | inl h ↦ rights_args ts (eqb-true _ _ k.0) h
+      | inr g ↦ absurd (let no = built_err h g.0 faults.Right g.2 in cc)
     ]
 
-limit_parts : (bytes text : List ℕ) (p : ℕ) → IsPid p → bytes ≡ decimal p ++ (32 ∷ text)
-    → (a : OfArguments text faults.Right)
-    → a.head ≡ listed forms.RightsLimit → NoRights a.texts → LimitsByNoRights bytes
-limit_parts bytes text p is at a head n =
+rights_event : (f : Form) (ts : List (List ℕ)) → has_rights f ≡ true → event_at (listed f) ts ≡ Err faults.Right
+    → NoRights ts
+unfolding event_at
+rights_event forms.RightsLimit ts h e = rights_shaped (listed forms.RightsLimit) ts e
+rights_event (forms.Needs m) ts h e = rights_shaped (listed (forms.Needs m)) ts e
+rights_event f ts h e = absurd (let no = h in cc)
+
+rights_parts : (bytes text : List ℕ) (p : ℕ) → IsPid p → bytes ≡ decimal p ++ (32 ∷ text)
+    → (a : OfArguments text faults.Right) (f : Form)
+    → a.head ≡ listed f → has_rights f ≡ true → NoRights a.texts → HasNoRights bytes
+rights_parts bytes text p is at a f head asks n =
     record {
       pid = p;
+      form = f;
       fd = n.fd;
       rights = n.rights;
       rest = a.tail;
       is_pid = is;
+      asks = asks;
       is_fd = n.is_fd;
       unnamed = n.unnamed;
       parts = at ∙ ap (λ (s : List ℕ). decimal p ++ (32 ∷ s)) (a.parts
           ∙ ap (λ (h : Head). name_of h ++ (40 ∷ (join_with_byte 44 a.texts ++ (41 ∷ a.tail)))) head
-          ∙ ap (λ (ts : List (List ℕ)). codes "cap_rights_limit" ++ (40 ∷ (join_with_byte 44 ts ++ (41 ∷ a.tail))))
+          ∙ ap (λ (ts : List (List ℕ)). name_of (listed f) ++ (40 ∷ (join_with_byte 44 ts ++ (41 ∷ a.tail))))
           n.parts
-          ∙ ap (λ (s : List ℕ). codes "cap_rights_limit(" ++ s)
+          ∙ ap (λ (s : List ℕ). name_of (listed f) ++ (40 ∷ s))
           (append_assoc (decimal n.fd) (44 ∷ n.rights) (41 ∷ a.tail)));
     }
 
 right_item : (bytes text : List ℕ) (p : ℕ) → IsPid p → bytes ≡ decimal p ++ (32 ∷ text)
-    → item_at text ≡ Err faults.Right → LimitsByNoRights bytes
-unfolding LimitOr no_right
+    → item_at text ≡ Err faults.Right → HasNoRights bytes
+unfolding RightsOr no_right
 right_item bytes text p is at e =
-    elim (item_err no_right right_passes text faults.Right e) as (λ _. LimitsByNoRights bytes) [
+    elim (item_err no_right right_passes text faults.Right e) as (λ _. HasNoRights bytes) [
       | inl h ↦ absurd (let no = h in cc)
-      | inr a ↦ elim (limit_or a.head) as (λ _. LimitsByNoRights bytes) [
-        | inl h ↦ limit_parts bytes text p is at a h
-            (limit_event a.texts (ap (λ (g : Head). event_at g a.texts) (sym h) ∙ a.said))
+      | inr a ↦ elim (rights_or a.head) as (λ _. HasNoRights bytes) [
+        | inl h ↦ rights_parts bytes text p is at a h.0 h.1 h.2
+            (rights_event h.0 a.texts h.2 (ap (λ (g : Head). event_at g a.texts) (sym h.1) ∙ a.said))
         | inr h ↦ absurd (let no = event_err no_right refl a.head a.texts faults.Right (h a.texts) a.said in cc)
       ]
     ]
 
 right_entry : (bytes : List ℕ) (o : Option (List ℕ × List ℕ)) → cut_at_byte 32 bytes ≡ o
-    → entry_at bytes o ≡ Err faults.Right → LimitsByNoRights bytes
+    → entry_at bytes o ≡ Err faults.Right → HasNoRights bytes
 unfolding entry_at
 right_entry bytes None at e =
-    elim (bind_err (pid_at bytes) (λ _. Err faults.Shape) faults.Right e) as (λ _. LimitsByNoRights bytes) [
+    elim (bind_err (pid_at bytes) (λ _. Err faults.Shape) faults.Right e) as (λ _. HasNoRights bytes) [
       | inl h ↦ absurd (let no = pid_err bytes faults.Right h in cc)
       | inr h ↦ absurd (let no = h.2 in cc)
     ]
 right_entry bytes (Some cut) at e =
     elim (bind_err (pid_at cut.0) (λ pid. item_at cut.1 >>= λ item. Ok (record { pid = pid; item = item })) faults.Right
-    e) as (λ _. LimitsByNoRights bytes) [
+    e) as (λ _. HasNoRights bytes) [
       | inl h ↦ absurd (let no = pid_err cut.0 faults.Right h in cc)
       | inr h ↦ (let make : Item → Entry = λ item. record { pid = h.0; item = item } in
           let p = pid_takes cut.0 h.0 h.1 in
@@ -443,9 +451,9 @@ right_entry bytes (Some cut) at e =
           (made_err (item_at cut.1) make faults.Right h.2))
     ]
 
-right_line : (bytes : List ℕ) → line_of bytes ≡ Err faults.Right → LimitsByNoRights bytes
+right_line : (bytes : List ℕ) → line_of bytes ≡ Err faults.Right → HasNoRights bytes
 unfolding in_length
 right_line bytes e = right_entry bytes (cut_at_byte 32 bytes) refl (short_err bytes faults.Right refl e).1
 
-pub right_only : RightOnlyOfLimits
+pub right_only : RightOnlyOfRights
 right_only = λ bytes h. right_line bytes (fault_err (line_of bytes) faults.Right h)

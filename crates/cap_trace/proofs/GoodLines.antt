@@ -192,6 +192,8 @@ item_from (items.Call c a) h n =
 item_from (items.Start fs) h n = let k = rise_from 0 fs h in (k.0, (tt, k.1))
 item_from items.Exit h n = (tt, (tt, tt))
 item_from (items.Foreign f) h n = (((refl, fd_from f h), tt), (tt, tt))
+item_from (items.Needs m f r) h n = (args_from (an_fd f ∷ some_rights r ∷ []) (rw h refl) (rw n refl), (tt, tt))
+item_from items.Global h n = (tt, (tt, tt))
 
 pub proper_from : (e : Entry) → is_pid e.pid ≡ true → is_good_item e.item ≡ true → has_named_rights e.item ≡ true
     → length (canon e) ≤ 1024 → IsProper e
@@ -214,6 +216,9 @@ item_to p (items.Start fs) bytes texts h = rise_to 0 texts fs h.args h.whole
 item_to p items.Exit bytes texts h = refl
 item_to p (items.Foreign f) bytes [] h = absurd h.args
 item_to p (items.Foreign f) bytes (t ∷ ts) h = fd_to f h.args.0.1
+item_to p (items.Needs m f r) bytes [] h = absurd h.args
+item_to p (items.Needs m f r) bytes (t ∷ ts) h = fd_to f h.args.0.1
+item_to p items.Global bytes texts h = refl
 
 limit_named : (ts : List (List ℕ)) (x y : ℕ) → SpellsArgs ts (an_fd x ∷ some_rights y ∷ []) → is_named y ≡ true
 limit_named [] x y h = absurd h
@@ -223,6 +228,7 @@ limit_named (t ∷ u ∷ ts) x y h = named_to u y h.1.0
 named_item : (p : ℕ) (i : Item) (bytes : List ℕ) (texts : List (List ℕ))
     → SpellsBy bytes (record { pid = p; item = i }) texts → has_named_rights i ≡ true
 named_item p (items.Call (calls.RightsLimit x y) a) bytes texts h = limit_named texts x y h.args
+named_item p (items.Needs m x y) bytes texts h = limit_named texts x y h.args
 named_item p i bytes texts h = refl
 
 abbrev has_good_fields : Entry → Bool

@@ -17,6 +17,7 @@ use Rattle.cap_trace.specs.declared.calls.AtCall.TheVariants as at_dir_calls
 use Rattle.cap_trace.specs.declared.calls.AtFlagsCall.TheVariants as at_dir_with_flags_calls
 use Rattle.cap_trace.specs.declared.calls.FlagsCall.TheVariants as on_flags_calls
 use Rattle.cap_trace.specs.declared.calls.BareCall.TheVariants as bare_calls
+use Rattle.cap_trace.specs.declared.calls.NeedsMarker.TheVariants as needs_markers
 use Rattle.cap_trace.specs.Names.{Head, listed, unlisted, row_of, name_of, is_name, is_name_byte, all_forms, form_named}
 use Rattle.cap_trace.specs.Names.{or_unlisted, head_named}
 use Rattle.cap_trace.specs.Spelling.{IsHead}
@@ -68,6 +69,8 @@ form_again (forms.OnFlags on_flags_calls.Socket) = refl
 form_again (forms.OnFlags c) = refl
 form_again (forms.Bare bare_calls.Pipe) = refl
 form_again (forms.Bare c) = refl
+form_again (forms.Needs needs_markers.Uses) = refl
+form_again (forms.Needs c) = refl
 form_again forms.Accept4 = refl
 form_again f = refl
 

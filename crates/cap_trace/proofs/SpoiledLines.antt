@@ -263,6 +263,10 @@ event_spoiled (items.Start fs) ts f h w = rw (fds_spoiled 0 ts fs f h w) refl
 event_spoiled items.Exit [] f h w = absurd h
 event_spoiled items.Exit (t ∷ ts) f h w = absurd h
 event_spoiled (items.Foreign g) ts f h w = these_spoiled (listed forms.Foreign) ts (an_fd g ∷ []) f _ refl refl h
+event_spoiled (items.Needs m g r) ts f h w =
+    these_spoiled (listed (forms.Needs m)) ts (an_fd g ∷ some_rights r ∷ []) f _ refl refl h
+event_spoiled items.Global [] f h w = absurd h
+event_spoiled items.Global (t ∷ ts) f h w = absurd h
 
 -- ---- the line
 
@@ -283,6 +287,8 @@ item_listed (items.Call c a) ts f h = call_listed c a ts f h
 item_listed (items.Start fs) ts f h = (forms.Start, (refl, fds_closed fs))
 item_listed items.Exit ts f h = (forms.Exit, (refl, refl))
 item_listed (items.Foreign g) ts f h = (forms.Foreign, (refl, refl))
+item_listed (items.Needs m g r) ts f h = (forms.Needs m, (refl, refl))
+item_listed items.Global ts f h = (forms.Global, (refl, refl))
 
 listed_args_and_tail : (g : Form) (ts : List (List ℕ)) (tail : List ℕ) → AreParts ts
     → args_and_tail (listed g) (join_with_byte 44 ts ++ (41 ∷ tail)) ≡ Some (ts, tail)

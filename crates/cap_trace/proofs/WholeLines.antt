@@ -22,7 +22,8 @@ use Rattle.cap_trace.specs.declared.quotes.Quoting.TheVariants.{Outside}
 use Rattle.cap_trace.specs.Names.{Head, listed, unlisted, name_of, head_named}
 use Rattle.cap_trace.specs.Fields.{is_free}
 use Rattle.cap_trace.specs.Quotes.{pieces, cut_at_byte, cut_outside}
-use Rattle.cap_trace.specs.Entry.{Entry, Arg, an_fd, args_of, args_of_call, fds, head_of, kind_of, IsPid, IsWhole}
+use Rattle.cap_trace.specs.Entry.{Entry, Arg, an_fd, some_rights, args_of, args_of_call, fds, head_of, kind_of, IsPid}
+use Rattle.cap_trace.specs.Entry.{IsWhole}
 use Rattle.cap_trace.specs.Spelling.{Spells, SpellsArgs, IsHead, tail_text}
 use Rattle.cap_trace.specs.Forms.{Event, a_call, a_marker}
 use Rattle.cap_trace.specs.Reading.{◌>>=◌, need, pid_at, event_at, answer_at, ended, args_and_tail, after_bracket}
@@ -35,7 +36,7 @@ use Rattle.cap_trace.proofs.Heads.{head_takes, head_again, head_lacks}
 use Rattle.cap_trace.proofs.Spelled.{ok_is, bind_made, pid_takes, pid_again, args_parts, is_closed, are_closed}
 use Rattle.cap_trace.proofs.Spelled.{fds_closed}
 use Rattle.cap_trace.proofs.Built.{event_args, event_head, IsWholeEvent, event_takes, call_again, start_again, exit_again}
-use Rattle.cap_trace.proofs.Built.{foreign_again}
+use Rattle.cap_trace.proofs.Built.{foreign_again, needs_again, global_again}
 use Rattle.cap_trace.proofs.Answered.{answer_takes, answer_again}
 
 -- ---- what follows the arguments
@@ -68,6 +69,9 @@ ended_takes (a_call c) tail i w e =
 ended_takes (a_marker (items.Start fs)) tail i w e = marker_ends (items.Start fs) tail i w (nil_from_length tail) e
 ended_takes (a_marker items.Exit) tail i w e = marker_ends items.Exit tail i w (nil_from_length tail) e
 ended_takes (a_marker (items.Foreign f)) tail i w e = marker_ends (items.Foreign f) tail i w (nil_from_length tail) e
+ended_takes (a_marker (items.Needs m f r)) tail i w e =
+    marker_ends (items.Needs m f r) tail i w (nil_from_length tail) e
+ended_takes (a_marker items.Global) tail i w e = marker_ends items.Global tail i w (nil_from_length tail) e
 ended_takes (a_marker (items.Call c a)) tail i w e = absurd w
 
 -- ---- between the brackets
@@ -133,6 +137,8 @@ between_again (items.Call c a) = call_cuts c a
 between_again (items.Start fs) = λ ts h tail. listed_again forms.Exit ts (fds fs) tail (fds_closed fs) h
 between_again items.Exit = λ ts h tail. listed_again forms.Exit ts [] tail refl h
 between_again (items.Foreign f) = λ ts h tail. listed_again forms.Exit ts (an_fd f ∷ []) tail refl h
+between_again (items.Needs m f r) = λ ts h tail. listed_again forms.Exit ts (an_fd f ∷ some_rights r ∷ []) tail refl h
+between_again items.Global = λ ts h tail. listed_again forms.Exit ts [] tail refl h
 
 -- ---- after the pid
 
@@ -176,6 +182,8 @@ event_again (items.Call c a) ts h w = rw (call_again c ts h)
 event_again (items.Start fs) ts h w = rw (start_again fs ts h w) refl
 event_again items.Exit ts h w = rw (exit_again ts h) refl
 event_again (items.Foreign f) ts h w = rw (foreign_again f ts h) refl
+event_again (items.Needs m f r) ts h w = rw (needs_again m f r ts h) refl
+event_again items.Global ts h w = rw (global_again ts h) refl
 
 item_again : (i : Item) (ts : List (List ℕ)) → IsHead (head_of i) → SpellsArgs ts (args_of i) → IsWhole i
     → item_at (name_of (head_of i) ++ (40 ∷ (join_with_byte 44 ts ++ (41 ∷ tail_text i)))) ≡ Ok i

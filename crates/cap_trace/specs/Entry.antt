@@ -57,6 +57,8 @@ head_of (items.Call c a) = head_of_call c
 head_of (items.Start fs) = listed forms.Start
 head_of items.Exit = listed forms.Exit
 head_of (items.Foreign f) = listed forms.Foreign
+head_of (items.Needs m f r) = listed (forms.Needs m)
+head_of items.Global = listed forms.Global
 
 -- ---- the arguments, from the left
 
@@ -110,6 +112,8 @@ args_of (items.Call c a) = args_of_call c
 args_of (items.Start fs) = fds fs
 args_of items.Exit = []
 args_of (items.Foreign f) = an_fd f ∷ []
+args_of (items.Needs m f r) = an_fd f ∷ some_rights r ∷ []
+args_of items.Global = []
 
 -- ---- the answer
 
@@ -158,3 +162,5 @@ IsWhole (items.Call c a) = IsAnswer (kind_of c) a
 IsWhole (items.Start fs) = RisesFrom 0 fs
 IsWhole items.Exit = Unit {0}
 IsWhole (items.Foreign f) = Unit {0}
+IsWhole (items.Needs m f r) = Unit {0}
+IsWhole items.Global = Unit {0}

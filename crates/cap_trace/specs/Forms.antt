@@ -71,6 +71,8 @@ form_shape (forms.Bare c) ts = these []
 form_shape forms.Start ts = rising_fds
 form_shape forms.Exit ts = these []
 form_shape forms.Foreign ts = these (fd ∷ [])
+form_shape (forms.Needs m) ts = these (fd ∷ rights ∷ [])
+form_shape forms.Global ts = these []
 
 -- what a name asks for, where these texts stand in its brackets
 abbrev pub shape_of : Head → List (List ℕ) → Shape
@@ -107,5 +109,7 @@ built (listed (forms.OnFlags c)) (some_flags x ∷ []) = Ok (a_call (calls.OnFla
 built (listed (forms.Bare c)) [] = Ok (a_call (calls.Bare c))
 built (listed forms.Exit) [] = Ok (a_marker items.Exit)
 built (listed forms.Foreign) (an_fd x ∷ []) = Ok (a_marker (items.Foreign x))
+built (listed (forms.Needs m)) (an_fd x ∷ some_rights y ∷ []) = Ok (a_marker (items.Needs m x y))
+built (listed forms.Global) [] = Ok (a_marker items.Global)
 built (unlisted n) (free_text a ∷ []) = Ok (a_call (calls.Other n a))
 built h given = Err faults.Argument

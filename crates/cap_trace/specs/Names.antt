@@ -22,6 +22,8 @@ use Rattle.cap_trace.specs.declared.calls.BareCall.{BareCall}
 use Rattle.cap_trace.specs.declared.calls.BareCall.TheVariants as bare_calls
 use Rattle.cap_trace.specs.declared.calls.DupCommand.{DupCommand}
 use Rattle.cap_trace.specs.declared.calls.DupCommand.TheVariants as dup_commands
+use Rattle.cap_trace.specs.declared.calls.NeedsMarker.{NeedsMarker}
+use Rattle.cap_trace.specs.declared.calls.NeedsMarker.TheVariants as needs_markers
 use Rattle.cap_trace.specs.declared.calls.Form.{Form}
 use Rattle.cap_trace.specs.declared.calls.Form.TheVariants as forms
 use Rattle.cap_trace.specs.declared.calls.ResultKind.{ResultKind}
@@ -145,6 +147,11 @@ bare bare_calls.Vfork = row (codes "vfork") Child
 bare bare_calls.Pdfork = row (codes "pdfork") ChildAndFd
 bare bare_calls.CapEnter = row (codes "cap_enter") Zero
 
+-- a marker of rights that a call needed
+abbrev pub needs : NeedsMarker → Row
+needs needs_markers.Uses = row (codes "@uses") Zero
+needs needs_markers.Refused = row (codes "@refused") Zero
+
 -- the whole table; a marker has no result
 abbrev pub row_of : Form → Row
 row_of (forms.OnFd c) = on_fd c
@@ -167,6 +174,8 @@ row_of forms.LinkAt = row (codes "linkat") Count
 row_of forms.Start = row (codes "@start") Zero
 row_of forms.Exit = row (codes "@exit") Zero
 row_of forms.Foreign = row (codes "@foreign") Zero
+row_of (forms.Needs c) = needs c
+row_of forms.Global = row (codes "@global") Zero
 
 -- the commands of fcntl that have a form of their own
 abbrev pub dup_command_name : DupCommand → List ℕ
@@ -227,8 +236,9 @@ all_forms =
     forms.OnFlags on_flags_calls.Pipe2 ∷ forms.Bare bare_calls.Pipe ∷ forms.Bare bare_calls.Kqueue ∷
     forms.Bare bare_calls.ShmOpen ∷ forms.Bare bare_calls.MqOpen ∷ forms.Bare bare_calls.Fhopen ∷
     forms.Bare bare_calls.Fork ∷ forms.Bare bare_calls.Vfork ∷ forms.Bare bare_calls.Pdfork ∷
-    forms.Bare bare_calls.CapEnter ∷ forms.Accept4 ∷ forms.Dup2 ∷ forms.Fcntl ∷ forms.Mmap ∷ forms.RightsLimit ∷
-    forms.Open ∷ forms.SymlinkAt ∷ forms.RenameAt ∷ forms.LinkAt ∷ forms.Start ∷ forms.Exit ∷ forms.Foreign ∷ []
+    forms.Bare bare_calls.CapEnter ∷ forms.Needs needs_markers.Uses ∷ forms.Needs needs_markers.Refused ∷
+    forms.Accept4 ∷ forms.Dup2 ∷ forms.Fcntl ∷ forms.Mmap ∷ forms.RightsLimit ∷ forms.Open ∷ forms.SymlinkAt ∷
+    forms.RenameAt ∷ forms.LinkAt ∷ forms.Start ∷ forms.Exit ∷ forms.Foreign ∷ forms.Global ∷ []
 
 -- the end of forms
 

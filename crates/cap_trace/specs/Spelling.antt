@@ -72,6 +72,8 @@ tail_text (items.Call c a) = codes " RET " ++ answer_text a
 tail_text (items.Start fs) = []
 tail_text items.Exit = []
 tail_text (items.Foreign f) = []
+tail_text (items.Needs m f r) = []
+tail_text items.Global = []
 
 -- a line with these texts for its arguments: pid, space, name, the arguments in brackets with commas between them, and
 -- the answer

@@ -1,5 +1,6 @@
 -- Which fault a line has, by the field that is wrong, and not by how the line is read.
-use Rattle.std.specs.Prelude.{◌≡◌, ◌≤◌, ◌<◌, ◌==◌, ◌↔◌, ◌⊎◌, ℕ, List, [], ◌∷◌, ◌++◌, length, Some, None, codes}
+use Rattle.std.specs.Prelude.{◌≡◌, ◌≤◌, ◌<◌, ◌==◌, ◌↔◌, ◌⊎◌, ℕ, Bool, true, false, List, [], ◌∷◌, ◌++◌, length}
+use Rattle.std.specs.Prelude.{Some, None, codes}
 use Rattle.std.specs.List.{join_with_byte, before_first}
 use Rattle.std.specs.Fmt.{decimal}
 use Rattle.cap_rights.specs.Text.{names}
@@ -11,7 +12,9 @@ use Rattle.cap_trace.specs.declared.line.Answer.{Answer}
 use Rattle.cap_trace.specs.declared.calls.ResultKind.{ResultKind}
 use Rattle.cap_trace.specs.declared.calls.ResultKind.TheVariants.{Same}
 use Rattle.cap_trace.specs.Limits.{longest_line}
-use Rattle.cap_trace.specs.Names.{name_of}
+use Rattle.cap_trace.specs.declared.calls.Form.{Form}
+use Rattle.cap_trace.specs.declared.calls.Form.TheVariants as forms
+use Rattle.cap_trace.specs.Names.{listed, name_of}
 use Rattle.cap_trace.specs.Quotes.{place}
 use Rattle.cap_trace.specs.Entry.{Entry, Arg, an_fd, a_dir, some_flags, some_rights, a_path, a_command, a_word}
 use Rattle.cap_trace.specs.Entry.{free_text, IsPid, IsFd, IsAnswer, kind_of, args_of, args_of_call, head_of_call}
@@ -37,20 +40,29 @@ PidExactly = (bytes : List ℕ) → (fault bytes ≡ Some faults.Pid)
 
 -- ---- rights
 
--- a limit of a descriptor with a text that names no rights
-pub record LimitsByNoRights (bytes : List ℕ) : Type 0 where
+-- a limit of a descriptor and a marker of needs have rights
+abbrev pub has_rights : Form → Bool
+has_rights forms.RightsLimit = true
+has_rights (forms.Needs marker) = true
+has_rights form = false
+
+-- one of these with a text that names no rights
+pub record HasNoRights (bytes : List ℕ) : Type 0 where
   pub pid : ℕ
+  pub form : Form
   pub fd : ℕ
   pub rights : List ℕ
   pub rest : List ℕ
   pub is_pid : IsPid pid
+  pub asks : has_rights form ≡ true
   pub is_fd : IsFd fd
   pub unnamed : names rights ≡ None
-  pub parts : bytes ≡ decimal pid ++ (codes " cap_rights_limit(" ++ (decimal fd ++ (44 ∷ (rights ++ (41 ∷ rest)))))
+  pub parts : bytes ≡ decimal pid
+      ++ (32 ∷ (name_of (listed form) ++ (40 ∷ (decimal fd ++ (44 ∷ (rights ++ (41 ∷ rest)))))))
 
--- only of a limit
-abbrev pub RightOnlyOfLimits : Type 0
-RightOnlyOfLimits = (bytes : List ℕ) → fault bytes ≡ Some faults.Right → LimitsByNoRights bytes
+-- only of these
+abbrev pub RightOnlyOfRights : Type 0
+RightOnlyOfRights = (bytes : List ℕ) → fault bytes ≡ Some faults.Right → HasNoRights bytes
 
 -- ---- one argument
 

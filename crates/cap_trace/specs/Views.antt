@@ -75,6 +75,8 @@ abbrev pub is_call_form : Form → Bool
 is_call_form forms.Start = false
 is_call_form forms.Exit = false
 is_call_form forms.Foreign = false
+is_call_form (forms.Needs m) = false
+is_call_form forms.Global = false
 is_call_form f = true
 
 -- the descriptors of a start, whose text this is
@@ -86,6 +88,8 @@ item_view (view_items.Call c a) = items.Call (call_view c) a
 item_view (view_items.Start text) = items.Start (fds_spelled text.now)
 item_view view_items.Exit = items.Exit
 item_view (view_items.Foreign f) = items.Foreign f
+item_view (view_items.Needs m f r) = items.Needs m f r
+item_view view_items.Global = items.Global
 
 abbrev pub event_view : code_event.Event → Event
 event_view (view_event.Call c) = a_call (call_view c)

@@ -12,16 +12,18 @@ ghost use Rattle.cap_trace.specs.Call as calls;
 ghost use Rattle.cap_trace.specs.Item as items;
 ghost use Rattle.cap_trace.specs.Names.{listed, unlisted, row_of};
 ghost use Rattle.cap_trace.specs.Code.Rows.{head_view};
-ghost use Rattle.cap_trace.specs.Views.{call_view};
+ghost use Rattle.cap_trace.specs.Views.{call_view, item_view};
 ghost use Rattle.cap_trace.specs.Entry.{an_fd, a_dir, some_flags, a_path, a_command, a_word, free_text, set_fd};
 ghost use Rattle.cap_trace.specs.Reading.{answer_at};
 ghost use Rattle.cap_trace.specs.Code.FastPath.{Before, SpellsAfter, Starts};
 
 use crate::answers::answer;
-use crate::calls::{AtFlagsCall, BareCall, FdCall, FlagsCall, Form, PathCall, ResultKind};
+use crate::calls::{
+    AtFlagsCall, BareCall, FdCall, FlagsCall, Form, NeedsMarker, PathCall, ResultKind,
+};
 use crate::equal::same_by_ends;
 use crate::limits::{Fd, LARGEST_FD, LARGEST_PID, LONGEST_LINE, Pid};
-use crate::line::{Answer, Call, Dir, fcntl_kind};
+use crate::line::{Answer, Call, Dir, Item, fcntl_kind};
 use crate::names::{Head, SHORTEST_NAME, head_of};
 use crate::number::digit_of;
 use crate::quotes::cut;
@@ -332,6 +334,20 @@ fn other<'a>(name: &'a [u8], text: &'a [u8]) -> Option<(Call<'a>, Answer)>
     let (args, tail) = free_before(b')', text)?;
     let answer = short_answer(ResultKind::Any, tail)?;
     Some((Call::Other(name, args), answer))
+}
+
+/// `@uses(fd,rights)`, `@refused(fd,rights)`
+#[inline(never)]
+pub(crate) fn needs(marker: NeedsMarker, text: &[u8]) -> Option<Item<'_>>
+    ensures { IfSome result (λ i. SpellsAfter (listed (forms.Needs marker)) text.now (item_view i)) }
+{
+    let (fd, rest) = fd_before(b',', text)?;
+    let (part, tail) = cut(b')', rest)?;
+    let rights = rights_of(part).ok()?;
+    match tail {
+        [] => Some(Item::Needs(marker, fd, rights)),
+        _ => None,
+    }
 }
 
 /// What follows the opening bracket of a name of the table.

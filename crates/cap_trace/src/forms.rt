@@ -172,6 +172,16 @@ pub(crate) fn event_of<'a>(form: Form, args: &'a [u8]) -> Result<Event<'a>, Firs
             Some(One(fd)) => Ok(Event::Marker(Item::Foreign(fd_of(fd)?))),
             _ => Err(FirstFault::Argument),
         },
+        Form::Needs(marker) => match argument_parts(args) {
+            Some(Two(fd, rights)) => {
+                Ok(Event::Marker(Item::Needs(marker, fd_of(fd)?, rights_of(rights)?)))
+            }
+            _ => Err(FirstFault::Argument),
+        },
+        Form::Global => match argument_parts(args) {
+            Some(Zero) => Ok(Event::Marker(Item::Global)),
+            _ => Err(FirstFault::Argument),
+        },
         _ => match call(form, args) {
             Ok(call) => Ok(Event::Call(call)),
             Err(fault) => Err(fault),

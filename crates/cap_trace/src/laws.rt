@@ -3,7 +3,7 @@
 
 ghost use Rattle.cap_trace.specs.Parsing.{OneLine, ReadingIsSpelling, WrittenIsRead};
 ghost use Rattle.cap_trace.specs.Rewriting.{OnlyRightsAreRewritten};
-ghost use Rattle.cap_trace.specs.Spoiled.{LongLineExactly, PidExactly, RightOnlyOfLimits, SpoiledArgument};
+ghost use Rattle.cap_trace.specs.Spoiled.{LongLineExactly, PidExactly, RightOnlyOfRights, SpoiledArgument};
 ghost use Rattle.cap_trace.specs.Spoiled.{SpoiledAnswer};
 
 /// The fault of a line is that of the field that is wrong.
@@ -13,7 +13,7 @@ pub fn faults_are_of_their_fields()
     // The pid is wrong exactly where the bytes before the first space spell none.
     ensures pid { PidExactly }
     // A right is wrong only in a limit, in a text that names no rights.
-    ensures right { RightOnlyOfLimits }
+    ensures right { RightOnlyOfRights }
     // A good line with one argument spoiled has the fault of that argument.
     ensures argument { SpoiledArgument }
     // A good line of a call with its answer spoiled has the fault of the answer.

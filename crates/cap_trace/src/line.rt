@@ -5,8 +5,8 @@ ghost use Rattle.std.specs.Prelude.{◌≡◌};
 ghost use Rattle.cap_trace.specs.Entry.{fcntl_kind as kind_of_command};
 
 use crate::calls::{
-    AtCall, AtFlagsCall, BareCall, DupCommand, FdCall, FlagsCall, Form, PathCall, PathsCall,
-    ResultKind, SendCall,
+    AtCall, AtFlagsCall, BareCall, DupCommand, FdCall, FlagsCall, Form, NeedsMarker, PathCall,
+    PathsCall, ResultKind, SendCall,
 };
 use crate::limits::{Fd, Pid};
 use crate::names::Head;
@@ -176,6 +176,11 @@ pub enum Item<'a> {
     Exit,
     /// Something that the trace doesn't show was done to this descriptor.
     Foreign(Fd),
+    /// `@uses(fd,rights)`, `@refused(fd,rights)`: a call needed these rights of this descriptor, beside what its own line is
+    /// checked for.
+    Needs(NeedsMarker, Fd, RightSet),
+    /// `@global()`: a call that succeeded is one that capability mode forbids.
+    Global,
 }
 
 impl<'a> Item<'a> {
@@ -192,6 +197,8 @@ impl<'a> Item<'a> {
             Item::Start(_) => Head::Listed(Form::Start),
             Item::Exit => Head::Listed(Form::Exit),
             Item::Foreign(_) => Head::Listed(Form::Foreign),
+            Item::Needs(marker, _, _) => Head::Listed(Form::Needs(*marker)),
+            Item::Global => Head::Listed(Form::Global),
         }
     }
 }
@@ -235,6 +242,8 @@ impl<'a> LineRef<'a> {
             Item::Start(fds) => Item::Start(fds),
             Item::Exit => Item::Exit,
             Item::Foreign(fd) => Item::Foreign(*fd),
+            Item::Needs(marker, fd, rights) => Item::Needs(*marker, *fd, *rights),
+            Item::Global => Item::Global,
         };
         LineRef { pid, item }
     }

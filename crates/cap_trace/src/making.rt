@@ -149,8 +149,8 @@ fn item_fits(alloc: Global, item: &Item<'_>) -> Result<bool, NoMemory>
             args_fit(call) && name_fits(call) && answer_fits(call.kind(), *answer)
         }
         Item::Start(fds) => rise(&fds_of(alloc, fds)?),
-        Item::Exit => true,
-        Item::Foreign(fd) => fd_fits(*fd),
+        Item::Exit | Item::Global => true,
+        Item::Foreign(fd) | Item::Needs(_, fd, _) => fd_fits(*fd),
     })
 }
 
@@ -173,7 +173,8 @@ fn rights_are_named(alloc: Global, item: &Item<'_>) -> Result<bool, NoMemory>
         Item::Call {
             call: Call::RightsLimit(_, rights),
             ..
-        } => is_read_again(alloc, rights),
+        }
+        | Item::Needs(_, _, rights) => is_read_again(alloc, rights),
         _ => Ok(true),
     }
 }

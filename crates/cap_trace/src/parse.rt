@@ -4,12 +4,14 @@ ghost use Rattle.std.specs.Prelude.{◌≡◌, ℕ, List, IfOk, IfSome, Ok, Err}
 ghost use Rattle.cap_trace.specs.Reading.{line_of};
 ghost use Rattle.cap_trace.specs.Code.Rows.{head_view};
 ghost use Rattle.cap_trace.specs.Code.FastPath.{Starts};
+ghost use Rattle.cap_trace.specs.Names.{listed};
+ghost use Rattle.cap_trace.specs.declared.calls.Form.TheVariants as forms;
 ghost use Rattle.cap_trace.specs.declared.fault.LineFault.TheVariants.{Memory};
 ghost use Rattle.cap_trace.specs.Spelling.{Spells};
 ghost use Rattle.cap_trace.specs.Parsing.{SpellsSome, FaultsAreExact, ReadsOnly, MatchesReading};
 
-use crate::calls::Form;
-use crate::fast_path::{Start, call_after, on_fd, start_of};
+use crate::calls::{Form, NeedsMarker};
+use crate::fast_path::{Start, call_after, needs, on_fd, start_of};
 use crate::fault::LineFault;
 use crate::limits::Pid;
 use crate::line::{Call, Item, Line, LineRef};
@@ -20,14 +22,27 @@ use crate::scan_fields::pid_of;
 use cap_rights::NoMemory;
 use std::alloc::Global;
 
-/// What the rest of a line says, where that is read in one pass.
+/// A line with a marker of needs, where that is read in one pass.
 #[inline(always)]
-fn other_fast(start: Start<'_>) -> Option<LineRef<'_>>
+fn needs_fast(pid: Pid, marker: NeedsMarker, text: &[u8]) -> Option<LineRef<'_>>
+    requires { (bytes : List ℕ) × Starts bytes pid (listed (forms.Needs marker)) text.now }
+    ensures { (bytes : List ℕ) → Starts bytes pid (listed (forms.Needs marker)) text.now
+        → IfSome result (λ l. line_of bytes ≡ Ok l) }
+{
+    // With a `?` in place of the match there is no proof.
+    match needs(marker, text) {
+        Some(item) => Some(LineRef { pid, item }),
+        None => None,
+    }
+}
+
+/// A line with a call, where that is read in one pass.
+#[inline(always)]
+fn call_fast(start: Start<'_>) -> Option<LineRef<'_>>
     requires { (bytes : List ℕ) × Starts bytes start.pid (head_view start.head) start.text.now }
     ensures { (bytes : List ℕ) → Starts bytes start.entry.pid (head_view start.entry.head) start.entry.text.now
         → IfSome result (λ l. line_of bytes ≡ Ok l) }
 {
-    // With a `?` in place of the match there is no proof.
     match call_after(start.head, start.text) {
         Some((call, answer)) => Some(LineRef {
             pid: start.pid,
@@ -35,6 +50,22 @@ fn other_fast(start: Start<'_>) -> Option<LineRef<'_>>
         }),
         None => None,
     }
+}
+
+/// A line with either, where that is read in one pass.
+#[inline(always)]
+fn other_fast(start: Start<'_>) -> Option<LineRef<'_>>
+    requires { (bytes : List ℕ) × Starts bytes start.pid (head_view start.head) start.text.now }
+    ensures { (bytes : List ℕ) → Starts bytes start.entry.pid (head_view start.entry.head) start.entry.text.now
+        → IfSome result (λ l. line_of bytes ≡ Ok l) }
+{
+    let Head::Listed(form) = start.head else {
+        return call_fast(start);
+    };
+    let Form::Needs(marker) = form else {
+        return call_fast(start);
+    };
+    needs_fast(start.pid, marker, start.text)
 }
 
 /// What the bytes say, where that is read in one pass. It takes no memory.

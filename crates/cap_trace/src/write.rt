@@ -148,8 +148,11 @@ fn put_between(item: &Item<'_>, out: &mut Vec<u8>) -> Result<(), AllocError>
     match item {
         Item::Call { call, .. } => put_call(call, out),
         Item::Start(fds) => put_start(fds, out),
-        Item::Exit => Ok(()),
+        Item::Exit | Item::Global => Ok(()),
         Item::Foreign(fd) => put_number(out, u64::from(*fd)),
+        Item::Needs(_, fd, rights) => {
+            put_arguments(&[ArgRef::Fd(*fd), ArgRef::Rights(*rights)], out)
+        }
     }
 }
 

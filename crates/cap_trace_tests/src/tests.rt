@@ -202,6 +202,9 @@ static READ: &[u8] = b"100 read(3) RET 5
 100 @start(0,3,1048575)
 100 @exit()
 100 @foreign(9)
+100 @uses(3,CAP_READ|CAP_WRITE|CAP_SEEK)
+100 @refused(1048575,NONE)
+100 @global()
 100 foo() RET 4,5
 100 foo(a\"b,-) RET 18446744073709551615
 1 _foo9(x) RET 0,18446744073709551615";

@@ -182,7 +182,11 @@ fn wrong_shape(line: &str) -> Wrong<'_> {
         return Wrong::Has("no ) after the arguments", rest);
     };
     if name.starts_with('@') {
-        return Wrong::Is(end, "follows the marker");
+        return if end.is_empty() {
+            Wrong::Is(name, "is not the name of a marker")
+        } else {
+            Wrong::Is(end, "follows the marker")
+        };
     }
     match rest.split_once(") RET ") {
         None => Wrong::Has("no RET and result after the arguments", end),
@@ -223,6 +227,9 @@ fn wrong_right(line: &str) -> Option<Wrong<'_>> {
 /// The first of these rights that is none.
 fn wrong_among(rights: &str) -> Wrong<'_> {
     for right in rights.split('|') {
+        if right.is_empty() {
+            return Wrong::Reason("a right is empty");
+        }
         if parse_rights(right.as_bytes()).is_err() {
             return Wrong::Is(right, "is not a right");
         }

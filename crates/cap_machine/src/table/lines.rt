@@ -12,7 +12,7 @@ ghost use Rattle.cap_trace.specs.Views.{call_view};
 ghost use Rattle.cap_machine.specs.Steps.{step};
 ghost use Rattle.cap_machine.specs.Touch.{on_fd, on_made, given, whole, closing, open_flag};
 ghost use Rattle.cap_machine.specs.Effect.{FitsMade};
-ghost use Rattle.cap_machine.specs.Rule.{requirement, call_requirement, check_of, reply};
+ghost use Rattle.cap_machine.specs.Rule.{requirement, call_requirement, needs_requirement, check_of, reply};
 ghost use Rattle.cap_machine.specs.Judge.{fault};
 ghost use Rattle.cap_machine.specs.Check.{findings_of};
 ghost use Rattle.cap_machine.specs.Code.Table.{cell_of, state_of, Keeps, step_after, touched_by};
@@ -30,7 +30,9 @@ use crate::rule::Reply;
 use crate::table::Table;
 use crate::verdict::Verdict;
 use cap_rights::{NoMemory, RightSet};
-use cap_trace::{Answer, AtCall, AtFlagsCall, Call, Dir, Fd, FdCall, Item, LineRef, PathCall, Pid};
+use cap_trace::{
+    Answer, AtCall, AtFlagsCall, Call, Dir, Fd, FdCall, Item, LineRef, NeedsMarker, PathCall, Pid,
+};
 
 impl Table {
     ghost use Rattle.cap_trace.specs.declared.line.Answer.{Answer};
@@ -171,6 +173,17 @@ impl Table {
         }
     }
 
+    /// Whether nothing is found in a `@uses` or a `@refused`.
+    #[inline(never)]
+    fn needs_have_no_finding(&self, pid: Pid, marker: NeedsMarker, fd: Fd, rights: RightSet) -> bool
+        ensures { IsTrue result → findings_of (needs_requirement marker fd rights) pid (state_of self.now) ≡ [] }
+    {
+        match marker {
+            NeedsMarker::Uses => self.may_have(pid, fd, without_full_of(&rights)),
+            NeedsMarker::Refused => true,
+        }
+    }
+
     /// Whether nothing is found in a line. May miss some: where it answers `false`, `findings_by_rule` says what is
     /// found. Inlined into the loop over lines, as all that it calls for a read or a write, so that no line is put into
     /// memory for it.
@@ -180,7 +193,11 @@ impl Table {
     {
         match &line.item {
             Item::Call { call, answer } => self.has_no_finding_in_call(line.pid, call, answer),
-            _ => true,
+            Item::Needs(marker, fd, rights) => {
+                self.needs_have_no_finding(line.pid, *marker, *fd, *rights)
+            }
+            Item::Global => self.mode(line.pid) != Mode::Inside,
+            Item::Start(_) | Item::Exit | Item::Foreign(_) => true,
         }
     }
 
@@ -295,6 +312,9 @@ impl Table {
                 | Call::Other(_, _) => return Ok(()),
                 _ => {}
             }
+        }
+        if let Item::Needs(_, _, _) | Item::Global = &line.item {
+            return Ok(());
         }
         self.apply_by_rule(profile, &line.copied())
     }

@@ -89,6 +89,8 @@ is_good_item (items.Call c a) = are_good (args_of_call c) && is_head (head_of_ca
 is_good_item (items.Start fs) = all_rise 0 fs
 is_good_item items.Exit = true
 is_good_item (items.Foreign f) = is_fd f
+is_good_item (items.Needs m f r) = is_fd f
+is_good_item items.Global = true
 
 abbrev pub is_same_set : ℕ → Option ℕ → Bool
 is_same_set r None = false
@@ -100,4 +102,5 @@ is_named r = is_same_set r (names (text r))
 
 abbrev pub has_named_rights : Item → Bool
 has_named_rights (items.Call (calls.RightsLimit f r) a) = is_named r
+has_named_rights (items.Needs m f r) = is_named r
 has_named_rights i = true

@@ -1,4 +1,4 @@
-use Rattle.std.proofs.Common.{rules, ◌≡◌, ◌<◌, length, refl, ap, ◌∙◌}
+use Rattle.std.proofs.Common.{rules, ◌<◌, length, refl, ap, ◌∙◌}
 use Rattle.cap_machine.specs.declared.table.Process.{Process}
 use Rattle.cap_machine.specs.Code.Table.{place_in, StandsAt}
 use Rattle.cap_machine.proofs.Owners.{put_at}

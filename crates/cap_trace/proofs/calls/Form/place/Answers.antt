@@ -22,6 +22,8 @@ use Rattle.cap_trace.specs.declared.calls.FlagsCall.TheVariants as on_flags_call
 use Rattle.cap_trace.specs.contracts.calls.FlagsCall as on_flags_calls_type
 use Rattle.cap_trace.specs.declared.calls.BareCall.TheVariants as bare_calls
 use Rattle.cap_trace.specs.contracts.calls.BareCall as bare_calls_type
+use Rattle.cap_trace.specs.declared.calls.NeedsMarker.TheVariants as needs_markers
+use Rattle.cap_trace.specs.contracts.calls.NeedsMarker as needs_markers_type
 
 -- where the table has the form's name
 abbrev begins : Form → ℕ
@@ -51,6 +53,9 @@ Stands (forms.OnFlags c) =
 Stands (forms.Bare c) =
     slice_get all_forms (tag_of bare_calls_type.the_type c + begins (forms.Bare bare_calls.Pipe))
     ≡ Some (forms.Bare c)
+Stands (forms.Needs c) =
+    slice_get all_forms (tag_of needs_markers_type.the_type c + begins (forms.Needs needs_markers.Uses))
+    ≡ Some (forms.Needs c)
 Stands f = Unit {0}
 
 stands : (f : Form) → Stands f
@@ -69,6 +74,8 @@ stands (forms.OnFlags on_flags_calls.Socket) = refl
 stands (forms.OnFlags c) = refl
 stands (forms.Bare bare_calls.Pipe) = refl
 stands (forms.Bare c) = refl
+stands (forms.Needs needs_markers.Uses) = refl
+stands (forms.Needs c) = refl
 stands f = tt
 
 pub returns-in-Send : goal.returns-in-Send
@@ -98,3 +105,7 @@ returns-in-OnFlags c = stands (forms.OnFlags c.in-OnFlags.call) ∙ ap Some (sym
 pub returns-in-Bare : goal.returns-in-Bare
 unfolding all_forms Stands
 returns-in-Bare c = stands (forms.Bare c.in-Bare.call) ∙ ap Some (sym c.in-Bare.is)
+
+pub returns-in-Needs : goal.returns-in-Needs
+unfolding all_forms Stands
+returns-in-Needs c = stands (forms.Needs c.in-Needs.call) ∙ ap Some (sym c.in-Needs.is)
