@@ -3,10 +3,10 @@
 use crate::lines::{Way, lines_of, reports};
 use crate::starts::rights_of;
 use cap_machine::{
-    Cell, Checker, Checks, Denial, Mode, OnExec, Profile, Start, denials, denials_are_within,
-    denials_in_turn, explain, explained_denials_are_right, lacking_rights_are_what_to_add,
-    put_denial, put_denial_count, put_denial_words, refused_lines_are_denied, rule_of,
-    wrong_refusals_are_unexplained,
+    Cell, Checker, Checks, Denial, LineDenials, Mode, OnExec, Profile, Start, denials,
+    denials_are_within, denials_in_turn, explain, explained_denials_are_right,
+    lacking_rights_are_what_to_add, put_denial, put_denial_count, put_denial_words,
+    refused_lines_are_denied, rule_of, wrong_refusals_are_unexplained,
 };
 use cap_trace::{Line, LineRef, parse_line};
 use std::alloc::Global;
@@ -148,6 +148,32 @@ fn a_trace_has_a_list_of_denials(rt: HostRuntime) {
     let holds = is_denied(rt.alloc(), &start);
     drop(start);
     assert!(rt; holds);
+}
+
+/// Whether the denials of a line are printed so.
+fn are_printed(alloc: Global, denials: &LineDenials, text: &[u8]) -> bool {
+    match format!(in alloc; "{:?}", denials) {
+        Ok(printed) => printed.as_bytes() == text,
+        Err(_) => false,
+    }
+}
+
+/// Whether the denials of the line at a position of the trace are printed so.
+fn prints(alloc: Global, at: usize, text: &[u8]) -> bool {
+    let start = Start::unknown(alloc);
+    match lines_of(alloc, TRACE) {
+        Some(lines) => match explain(alloc, Profile::One, &start, &lines, at) {
+            Ok(Some(found)) => are_printed(alloc, &found.denials, text),
+            _ => false,
+        },
+        None => false,
+    }
+}
+
+#[test]
+fn denials_of_a_line_are_printed_as_a_list(rt: HostRuntime) {
+    assert!(rt; prints(rt.alloc(), 6, b"[]"));
+    assert!(rt; prints(rt.alloc(), 7, b"[Inside]"));
 }
 
 /// Whether this is written of a denial of a line, with a count of one.
