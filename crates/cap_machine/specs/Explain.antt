@@ -10,6 +10,7 @@ use Rattle.cap_machine.specs.declared.rule.Reply.{Reply}
 use Rattle.cap_machine.specs.declared.rule.Reply.TheVariants.{Success, NotCapable, NotPermitted, Other}
 use Rattle.cap_machine.specs.declared.verdict.Finding.{Finding}
 use Rattle.cap_machine.specs.declared.denial.Denial.{Denial}
+use Rattle.cap_machine.specs.declared.cell.Cell.{Cell}
 use Rattle.cap_machine.specs.declared.cell.Mode.{Mode}
 use Rattle.cap_machine.specs.declared.cell.Mode.TheVariants.{Unsure}
 use Rattle.cap_machine.specs.declared.provenance.CellProvenance.{CellProvenance}
@@ -44,12 +45,15 @@ abbrev pub mode_matters : Requirement → Bool
 mode_matters d = mode_matters_by d.reply d
 
 -- the findings of a line, its denials, the chain of each descriptor that it checks, in order, and that of its process's
--- mode where the findings can depend on it; elsewhere the denials don't depend on it
+-- mode where the findings can depend on it; elsewhere the denials don't depend on it. And what these chains lead to: the
+-- cells and the mode before the line
 pub record Explained : Type 0 where
   pub findings : List Finding
   pub denials : List Denial
   pub cells : List CellChain
   pub mode : Option ModeChain
+  pub cells_before : List Cell
+  pub mode_before : Option Mode
 
 -- of a line of process p with this requirement, after a history
 abbrev pub explained_of : State → List Step → Requirement → ℕ → Explained
@@ -58,6 +62,8 @@ explained_of s history d p = record {
   denials = denied_of d p (after s history);
   cells = map (λ (check : Check). cell_chain s history p check.fd) (listed d.checks);
   mode = if mode_matters d then Some (mode_chain s history p) else None;
+  cells_before = map (λ (check : Check). cell_after s history p check.fd) (listed d.checks);
+  mode_before = if mode_matters d then Some (mode_after s history p) else None;
 }
 
 abbrev pub explained : State → List Step → Step → Explained
@@ -81,6 +87,8 @@ explained_by e = record {
   denials = e.denials;
   cells = map cell_chain_of e.cells.items;
   mode = option_map mode_chain_of e.mode;
+  cells_before = map (λ (provenance : CellProvenance). provenance.cell) e.cells.items;
+  mode_before = option_map (λ (provenance : ModeProvenance). provenance.mode) e.mode;
 }
 
 -- where the mode doesn't matter it isn't looked up
