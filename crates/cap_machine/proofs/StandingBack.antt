@@ -1,6 +1,6 @@
 -- Going back over the lines of a trace: which descriptors stand in what is known.
-use Rattle.std.proofs.Common.{◌≡◌, ◌⊎◌, ◌↔◌, ℕ, suc, ◌==◌, nat_le, ◌&&◌, ◌||◌, if◌then◌else◌, List, [], ◌∷◌, Bool, true, false}
-use Rattle.std.proofs.Common.{map, refl, sym, ap, ◌∙◌, subst, inl, inr, arith}
+use Rattle.std.proofs.Common.{◌≡◌, ◌⊎◌, ◌↔◌, ℕ, suc, ◌==◌, nat_le, ◌&&◌, ◌||◌, if◌then◌else◌, List, ◌∷◌, Bool, true, false}
+use Rattle.std.proofs.Common.{refl, sym, ap, ◌∙◌, subst, inl, inr, arith}
 use Rattle.std.specs.List.{list_any}
 use Rattle.std.proofs.lemmas.Bool.{cases_Bool, cond-true, cond-false, eqb-true}
 use Rattle.std.proofs.lemmas.Bool.Decides.{nat_tests}
@@ -20,9 +20,7 @@ use Rattle.cap_machine.specs.Touch.{Touch, kept, given, taken, touch, started}
 use Rattle.cap_machine.specs.Effect.{effect_touch}
 use Rattle.cap_machine.specs.State.{State, Added}
 use Rattle.cap_machine.specs.History.{touched, cell_after}
-use Rattle.cap_machine.specs.declared.start.Entry.{Entry}
-use Rattle.cap_machine.specs.Code.Starts.{added_by}
-use Rattle.cap_machine.specs.Standing.{StandsBy, Stands, IsHeld, start_lists, added_lists}
+use Rattle.cap_machine.specs.Standing.{StandsBy, Stands, IsHeld}
 use Rattle.cap_machine.specs.Code.Singles.{is_single, source_of}
 
 -- ---- one line
@@ -268,10 +266,3 @@ one_added is_it some more first last old is before e =
     turned true false n = refl
     turned false true n = refl
     turned false false n = refl
-
--- a start's list, by its entries
-pub lists_mapped : (entries : List Entry) (p f : ℕ)
-    → start_lists (map added_by entries) p f ≡ list_any (λ (entry : Entry). added_lists (added_by entry) p f) entries
-lists_mapped [] p f = refl
-lists_mapped (entry ∷ entries) p f =
-    ap (λ (b : Bool). added_lists (added_by entry) p f || b) (lists_mapped entries p f)

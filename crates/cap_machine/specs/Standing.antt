@@ -1,6 +1,6 @@
 -- Which descriptors of a process stand in what is known of it, one by one: those that a line made or changed alone, and
 -- those that a start lists. One that is held only because a start says so of all others doesn't.
-use Rattle.std.specs.Prelude.{◌≡◌, ◌⊎◌, ℕ, ◌==◌, ◌&&◌, Bool, true, List, [], ◌∷◌}
+use Rattle.std.specs.Prelude.{◌≡◌, ◌⊎◌, ℕ, ◌==◌, if◌then◌else◌, Bool, true, List, [], ◌∷◌}
 use Rattle.std.specs.List.{list_any}
 use Rattle.cap_machine.specs.declared.cell.Cell.{Cell}
 use Rattle.cap_machine.specs.declared.cell.Cell.TheVariants.{Unknown, Closed, Held}
@@ -8,12 +8,14 @@ use Rattle.cap_machine.specs.declared.step.Step.{Step}
 use Rattle.cap_machine.specs.State.{Added}
 use Rattle.cap_machine.specs.Touch.{Touch, kept, given, taken, touch}
 
--- the start lists descriptor f of process p
-abbrev pub added_lists : Added → ℕ → ℕ → Bool
-added_lists added p f = p == added.pid && list_any (λ (entry : ℕ × Cell). f == entry.0) added.cells
+-- the cells that are listed of process p, and else these: of a process that was added twice the last time counts
+abbrev pub last_cells : List (ℕ × Cell) → List Added → ℕ → List (ℕ × Cell)
+last_cells cells [] p = cells
+last_cells cells (next ∷ more) p = last_cells (if p == next.pid then next.cells else cells) more p
 
+-- the start lists descriptor f of process p
 abbrev pub start_lists : List Added → ℕ → ℕ → Bool
-start_lists start p f = list_any (λ (added : Added). added_lists added p f) start
+start_lists start p f = list_any (λ (entry : ℕ × Cell). f == entry.0) (last_cells [] start p)
 
 -- By what a step does to a descriptor, and to each of its process: it stands where the step gave it. Where the step took
 -- it from another cell, it stands if the step left some descriptor of the process as it was; a step that took them all, as

@@ -1,13 +1,12 @@
 //! What is known before the first line of a trace.
 
-ghost use Rattle.std.specs.Prelude.{◌≡◌, ◌≤◌, ℕ, ◌==◌, OnOk, OnErr, [], ◌∷◌, ◌++◌, ◌||◌};
+ghost use Rattle.std.specs.Prelude.{◌≡◌, ◌≤◌, ℕ, ◌==◌, OnOk, OnErr, [], ◌∷◌, ◌++◌, ◌||◌, map};
 ghost use Rattle.std.specs.List.{All, list_any};
 ghost use Rattle.cap_trace.specs.Entry.{IsFd};
 ghost use Rattle.cap_trace.specs.Limits.{largest_pid};
 ghost use Rattle.cap_machine.specs.declared.cell.Cell.{Cell};
-ghost use Rattle.cap_machine.specs.declared.start.Entry.{Entry};
 ghost use Rattle.cap_machine.specs.Code.Starts.{added_by};
-ghost use Rattle.cap_machine.specs.Standing.{start_lists, added_lists};
+ghost use Rattle.cap_machine.specs.Standing.{start_lists, last_cells};
 ghost use Rattle.cap_machine.specs.Code.Singles.{has_fd};
 ghost use Rattle.cap_machine.specs.State.{usual, with_listed};
 ghost use Rattle.cap_machine.specs.State.{start_state};
@@ -49,17 +48,17 @@ fn add_listed(fds: &mut BTreeSet<Fd>, cells: &[(Fd, Cell)]) -> Result<(), NoMemo
     Ok(())
 }
 
-/// Adds the descriptors that these list for a process.
-fn add_entries(fds: &mut BTreeSet<Fd>, entries: &[Entry], pid: Pid) -> Result<(), NoMemory>
-    ensures { OnOk result ((f : ℕ) → has_fd fds.new f
-        ≡ (list_any (λ (entry : Entry). added_lists (added_by entry) pid f) entries.now || has_fd fds.old f)) }
+/// The cells that the last of these entries of a process lists; none where it has no entry.
+fn last_listed(entries: &[Entry], pid: Pid) -> &[(Fd, Cell)]
+    ensures { result.now ≡ last_cells [] (map added_by entries.now) pid }
 {
+    let mut last: &[(Fd, Cell)] = &[];
     for entry in entries {
         if pid == entry.pid {
-            add_listed(fds, &entry.cells)?;
+            last = &entry.cells;
         }
     }
-    Ok(())
+    last
 }
 
 impl Model for Start {
@@ -124,12 +123,11 @@ impl Start {
         Ok(())
     }
 
-    /// Adds the descriptors that it lists for a process.
-    #[tactic(auto, using(crate::proofs::StandingBack::lists_mapped))]
+    /// Adds the descriptors that it lists for a process: those of the last time that it was added.
     pub(crate) fn add_listed(&self, pid: Pid, fds: &mut BTreeSet<Fd>) -> Result<(), NoMemory>
         ensures { OnOk result ((f : ℕ) → has_fd fds.new f ≡ (start_lists self.now pid f || has_fd fds.old f)) }
     {
-        add_entries(fds, &self.added, pid)
+        add_listed(fds, last_listed(&self.added, pid))
     }
 
     /// What is known of a descriptor of a process.

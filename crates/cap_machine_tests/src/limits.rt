@@ -301,6 +301,16 @@ static STARTED: [BeforeRow; 2] = [
     ),
 ];
 
+/// Limits before a line, from a start in which process 100 holds all, and listed 7 only before it was added again.
+static ADDED_AGAIN: BeforeRow = (
+    b"100 dup(3) RET 4\n100 read(4) RET 1\n100 read(7) RET 1",
+    2,
+    100,
+    &[(4, b"CAP_READ")],
+    &[],
+    Entering::May,
+);
+
 /// Lets live rights pass the lines from the last one back to one.
 fn passed(alloc: Global, lines: &[Line], from: usize) -> Option<LiveRights> {
     let mut live = LiveRights::none(alloc);
@@ -432,9 +442,18 @@ fn all_held(alloc: Global) -> Option<Start> {
     }
 }
 
-/// Whether the limits before a line of a trace are those of a row, from the start in which all is held.
-fn is_started(alloc: Global, row: &BeforeRow) -> bool {
-    match (all_held(alloc), lines_of(alloc, row.0)) {
+/// The same start, to which process 100 is added once more: it holds all again, and nothing is listed.
+fn added_again(alloc: Global) -> Option<Start> {
+    let mut start = all_held(alloc)?;
+    match start.add(100, Mode::Outside, whole(), Vec::new(alloc)) {
+        Ok(()) => Some(start),
+        Err(_) => None,
+    }
+}
+
+/// Whether the limits before a line of a trace are those of a row, from a start.
+fn is_started(alloc: Global, start: Option<Start>, row: &BeforeRow) -> bool {
+    match (start, lines_of(alloc, row.0)) {
         (Some(start), Some(lines)) => is_before(alloc, &start, &lines, row),
         _ => false,
     }
@@ -470,11 +489,18 @@ fn processes_are_limited_before_a_line(rt: HostRuntime) {
         assert!(rt; is_usual(rt.alloc(), row));
     }
     for row in &STARTED {
-        assert!(rt; is_started(rt.alloc(), row));
+        let start = all_held(rt.alloc());
+        assert!(rt; is_started(rt.alloc(), start, row));
     }
     assert!(rt; is_no_line(rt.alloc(), 0));
     assert!(rt; is_no_line(rt.alloc(), 16));
     assert!(rt; is_beginning(rt.alloc(), 2101, 1));
+}
+
+#[test]
+fn a_process_added_twice_lists_what_came_last(rt: HostRuntime) {
+    let start = added_again(rt.alloc());
+    assert!(rt; is_started(rt.alloc(), start, &ADDED_AGAIN));
 }
 
 #[test]

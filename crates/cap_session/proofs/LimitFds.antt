@@ -1,10 +1,10 @@
 -- Descriptors within the limit: those that stand in a state and are held, and those in which a right is live. And which
 -- rights are live: with each right all that its name stands for.
-use Rattle.std.proofs.Common.{◌≡◌, ℕ, ◌<◌, ◌==◌, ◌&&◌, true, List, [], ◌∷◌, sym, subst}
+use Rattle.std.proofs.Common.{◌≡◌, ℕ, ◌<◌, ◌==◌, ◌&&◌, if◌then◌else◌, Bool, true, false, List, [], ◌∷◌, sym, subst}
 use Rattle.std.proofs.Common.{inl, inr, arith, Option, Some, None}
 use Rattle.std.specs.List.{All, list_any}
 use Rattle.std.proofs.lemmas.Bool.{and_parts, and_from, eqb-true, cases_lt, or_cases}
-use Rattle.std.proofs.lemmas.List.Elements.{All-head, All-tail}
+use Rattle.std.proofs.lemmas.List.Elements.{All-head, All-nil, All-tail}
 use Rattle.cap_rights.specs.Names.{value_at}
 use Rattle.cap_rights.specs.Rights.{all, holds, IsRightSet}
 use Rattle.cap_rights.specs.Text.{text}
@@ -27,7 +27,7 @@ use Rattle.cap_machine.specs.Live.{Live, HandsOn, Passes, step_needs, checks_nee
 use Rattle.cap_machine.specs.Named.{args_name}
 use Rattle.cap_machine.specs.Op.{applied, held_op, masked}
 use Rattle.cap_machine.specs.Rule.{requirement}
-use Rattle.cap_machine.specs.Standing.{Stands, StandsBy, IsHeld, start_lists, added_lists}
+use Rattle.cap_machine.specs.Standing.{Stands, StandsBy, IsHeld, start_lists, last_cells}
 use Rattle.cap_machine.specs.State.{State, Added}
 use Rattle.cap_machine.specs.Touch.{Touch, kept, given, taken, touch}
 use Rattle.cap_machine.proofs.LimitLeast.{needing}
@@ -52,17 +52,22 @@ listed_within f (entry ∷ more) are is =
       | inr later ↦ listed_within f more (All-tail IsListedCell entry more are) later
     ]
 
+last_listed : (cells : List (ℕ × Cell)) (start : List Added) (p : ℕ) → All IsListedCell cells → IsSpelledStart start
+    → All IsListedCell (last_cells cells start p)
+last_listed cells [] p are spelled = are
+last_listed cells (added ∷ more) p are spelled =
+    last_listed (if p == added.pid then added.cells else cells) more p
+    (either (p == added.pid) added.cells cells (All-head IsSpelledAdded added more spelled).1 are)
+    (All-tail IsSpelledAdded added more spelled)
+  where
+    either : (b : Bool) (xs ys : List (ℕ × Cell)) → All IsListedCell xs → All IsListedCell ys
+        → All IsListedCell (if b then xs else ys)
+    either true xs ys one other = one
+    either false xs ys one other = other
+
 start_within : (start : List Added) (p f : ℕ) → IsSpelledStart start → start_lists start p f ≡ true → IsFd f
-start_within [] p f are is = absurd (cc)
-start_within (added ∷ more) p f are is =
-    elim (or_cases (added_lists added p f) (start_lists more p f) is) [
-      | inl here ↦ (let parts = and_parts (p == added.pid)
-          (list_any (λ (entry : ℕ × Cell). f == entry.0) added.cells) here in
-          listed_within f added.cells
-          (All-head IsSpelledAdded added more are).1 parts.1)
-      | inr later ↦ start_within more p f
-          (All-tail IsSpelledAdded added more are) later
-    ]
+start_within start p f are is =
+    listed_within f (last_cells [] start p) (last_listed [] start p (All-nil IsListedCell) are) is
 
 was_held : (op : Op) (c : Cell) → KeepsUnheld op → IsHeld (applied op c) → IsHeld c
 was_held op Unknown unheld is = absurd (unheld.0 is)
