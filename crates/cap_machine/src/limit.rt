@@ -41,7 +41,7 @@ fn limit_of(machine: &Machine, live: &LiveRights, pid: Pid, fd: Fd) -> Option<Li
     match machine.cell(pid, fd) {
         Cell::Held(rights, flag) => Some(Limit {
             fd,
-            rights: least_rights(&rights, &live.rights(pid, fd, flag)),
+            rights: least_rights(&rights, &live.needed(pid, fd, flag)),
         }),
         _ => None,
     }

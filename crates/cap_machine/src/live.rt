@@ -3,18 +3,20 @@
 pub(crate) mod fd_rights;
 mod process;
 
-ghost use Rattle.std.specs.Prelude.{◌≡◌, ℕ, ◌+◌, ◌==◌, OnOk, List, [], ◌∷◌, None, if◌then◌else◌};
+ghost use Rattle.std.specs.Prelude.{◌≡◌, ◌↔◌, ℕ, ◌+◌, ◌<◌, ◌^◌, ◌==◌, true, OnOk, List, [], ◌∷◌, None, if◌then◌else◌};
+ghost use Rattle.cap_rights.specs.Rights.{holds};
 ghost use Rattle.cap_trace.specs.Item as items;
 ghost use Rattle.cap_trace.specs.Call as calls;
 ghost use Rattle.cap_machine.specs.declared.cell.OnExec.{OnExec};
 ghost use Rattle.cap_machine.specs.declared.step.Step.{Step};
 ghost use Rattle.cap_machine.specs.Steps.{step};
+ghost use Rattle.cap_machine.specs.Live.{Live};
 ghost use Rattle.cap_machine.specs.Code.LiveRights.{AreLive, AreBlocked, IsRule};
 ghost use Rattle.cap_machine.specs.Code.Wanted.{rights_of, wanted_of, wanted, blocked, is_child};
 ghost use Rattle.cap_machine.specs.Code.Wanted.{wanted_in_either, blocked_in_either};
 ghost use Rattle.cap_machine.specs.Code.Wanted.{undone, unblocked, with_requirement, blocked_with};
 
-use crate::cell::{OnExec, Profile};
+use crate::cell::{OnExec, Profile, without_full_of};
 use crate::effects::{closed, effect_of_line, keeps_all};
 use crate::live::fd_rights::FdRights;
 use crate::live::process::LiveProcess;
@@ -48,8 +50,18 @@ impl LiveRights {
         }
     }
 
-    /// The rights of a descriptor of a process that the lines need, where it is held with this flag.
+    /// The rights of a descriptor of a process that the lines need, where it is held with this flag: by name, without
+    /// FULL.
     pub fn rights(&self, pid: Pid, fd: Fd, flag: OnExec) -> RightSet
+        ensures by_name { result < 2 ^ 63 }
+        ensures live { (later : List Step) → AreLive self.now later
+            → (k : ℕ) → k < 63 → (holds result k ≡ true) ↔ Live later pid fd flag k }
+    {
+        without_full_of(&self.needed(pid, fd, flag))
+    }
+
+    /// The same as they are kept, of which only those by name count.
+    pub(crate) fn needed(&self, pid: Pid, fd: Fd, flag: OnExec) -> RightSet
         ensures { result ≡ wanted self.now pid fd flag }
     {
         match self.processes.get(&pid) {

@@ -150,7 +150,7 @@ fn add_limit(
 {
     match cell {
         Cell::Held(held, flag) => {
-            let rights = least_rights(held, &live.rights(pid, fd, *flag));
+            let rights = least_rights(held, &live.needed(pid, fd, *flag));
             limits.push(MakerLimit {
                 at,
                 pid,
