@@ -1,25 +1,27 @@
--- The limits of what a trace makes, from the last step back.
-use Rattle.std.proofs.Common.{◌≡◌, ◌↔◌, ℕ, ◌+◌, ◌-◌, ◌<◌, ◌≤◌, ◌^◌, ◌&&◌, Bool, true, List, [], ◌∷◌, ◌++◌}
-use Rattle.std.proofs.Common.{map, append_assoc, append-nil, refl, sym, ap, ◌∙◌, subst, arith}
-use Rattle.std.specs.List.{All}
-use Rattle.std.proofs.lemmas.List.Elements.{All-nil, All-cons}
+-- What is said of what a trace makes, from the last step back.
+use Rattle.std.proofs.Common.{◌≡◌, ◌↔◌, ℕ, ◌+◌, ◌-◌, ◌<◌, ◌≤◌, ◌^◌, ◌==◌, ◌&&◌, Bool, true, false, if◌then◌else◌}
+use Rattle.std.proofs.Common.{List, [], ◌∷◌, ◌++◌, inl, inr}
+use Rattle.std.proofs.Common.{append_assoc, append-nil, refl, sym, ap, ◌∙◌, subst, arith}
 use Rattle.std.proofs.lemmas.List.{reverse-append}
-use Rattle.std.proofs.lemmas.Bool.{and_parts, and_from, lt-ltb}
+use Rattle.std.proofs.lemmas.Bool.{and_parts, and_from, lt-ltb, both_ways, eqb-true}
+use Rattle.std.proofs.lemmas.Bool.Decides.{nat_tests}
 use Rattle.std.proofs.lemmas.Nat.{and_le_r}
-use Rattle.cap_rights.specs.Rights.{holds, meet, named as all_named}
-use Rattle.cap_rights.proofs.Members.{meet_holds, all_named_hold}
+use Rattle.cap_rights.specs.Rights.{all, holds, meet, named as all_named}
+use Rattle.cap_rights.proofs.Members.{meet_holds, all_holds, none_holds, all_named_hold}
 use Rattle.cap_machine.specs.declared.cell.OnExec.{OnExec}
+use Rattle.cap_machine.specs.declared.cell.OnExec.TheVariants.{Unsure}
 use Rattle.cap_machine.specs.declared.cell.Cell.{Cell}
 use Rattle.cap_machine.specs.declared.cell.Cell.TheVariants.{Unknown, Closed, Held}
 use Rattle.cap_machine.specs.declared.step.Step.{Step}
 use Rattle.cap_machine.specs.declared.makers.MakerLimit.{MakerLimit}
+use Rattle.cap_machine.specs.declared.makers.MakerRow.{MakerRow}
+use Rattle.cap_machine.specs.declared.makers.MakerRow.TheVariants as rows
 use Rattle.cap_machine.specs.State.{State}
 use Rattle.cap_machine.specs.History.{after, ended}
 use Rattle.cap_machine.specs.Live.{Live}
-use Rattle.cap_machine.specs.Limits.{IsLeast, IsLimit}
-use Rattle.cap_machine.specs.Limits.{least_of}
-use Rattle.cap_machine.specs.Makers.{Place, place_of, held_place, held_places, AreMakerLimits, cells_made, maker_row}
-use Rattle.cap_machine.specs.Makers.{maker_rows, made_fds, cells_along, cells_back}
+use Rattle.cap_machine.specs.Limits.{IsLeast, least_of}
+use Rattle.cap_machine.specs.Makers.{AreRowsOf, AreMakerRows, cells_made, needed_row, maker_row, maker_rows, made_fds}
+use Rattle.cap_machine.specs.Makers.{cells_along, cells_back}
 use Rattle.cap_machine.proofs.Turns.{ends_more}
 
 -- ---- the rights of one limit
@@ -42,75 +44,92 @@ least_is later p f rights wanted flag live =
       ),
     )
 
--- ---- the limits of one step
+-- ---- the rows of one step
 
--- the cell of a descriptor, and what stands for it in a list of limits
-row_place : (at p f : ℕ) (cell : Cell) (w : OnExec → ℕ) (rows : List MakerLimit)
-    → map place_of (maker_row at p f cell w ++ rows) ≡ held_place cell at p f ++ map place_of rows
-row_place at p f Unknown w rows = refl
-row_place at p f _ w rows = refl
+-- what is wanted of an unknown descriptor is said of it, where it is something
+needed_said : (next : State) (later : List Step) (at p f : ℕ) (fds : List ℕ) (wanted : ℕ) (others : List MakerRow)
+    → next.cell p f ≡ Unknown
+    → ((k : ℕ) → k < 63 → (holds wanted k ≡ true) ↔ Live later p f Unsure k)
+    → AreRowsOf next later at p fds others
+    → AreRowsOf next later at p (f ∷ fds) (needed_row at p f wanted ++ others)
+needed_said next later at p f fds wanted others is live rest = by (least_of all wanted == 0) refl
+  where
+    limit : MakerLimit
+    limit = record { at = at; pid = p; fd = f; rights = least_of all wanted }
 
-row_limits : (next : State) (later : List Step) (at p f : ℕ) (cell : Cell) (w : OnExec → ℕ) (rows : List MakerLimit)
+    least : IsLeast later p f all Unsure (least_of all wanted)
+    least = least_is later p f all wanted Unsure live
+
+    differs : (n : ℕ) → (n == 0) ≡ false → n ≡ 0 → ⊥
+    differs n ne e = grind (arith, nat_tests, ne, e)
+
+    by : (b : Bool) → (least_of all wanted == 0) ≡ b
+        → AreRowsOf next later at p (f ∷ fds) ((if b then [] else rows.Unknown limit ∷ []) ++ others)
+    by true none = inl (
+      inr (
+        is,
+        λ k lt alive. both_ways _
+            (ap (λ (n : ℕ). holds n k) (eqb-true (least_of all wanted) 0 none) ∙ none_holds k)
+            ((least.1 k lt).1 (all_holds k ∙ lt-ltb k 64 (omega (arith, lt)), alive)),
+      ),
+      rest,
+    )
+    by false some =
+        inr (rows.Unknown limit, others, refl, refl, (is, least, differs (least_of all wanted) some), rest)
+
+row_said : (next : State) (later : List Step) (at p f : ℕ) (fds : List ℕ) (cell : Cell) (w : OnExec → ℕ)
+    (others : List MakerRow)
     → next.cell p f ≡ cell
     → ((x : OnExec) (k : ℕ) → k < 63 → (holds (w x) k ≡ true) ↔ Live later p f x k)
-    → All (λ (limit : MakerLimit). IsLimit next later limit.pid (limit.fd, limit.rights)) rows
-    → All (λ (limit : MakerLimit). IsLimit next later limit.pid (limit.fd, limit.rights)) (maker_row at p f cell w ++ rows)
-row_limits next later at p f Unknown w rows is live rest = rest
-row_limits next later at p f Closed w rows is live rest = rest
-row_limits next later at p f (Held rights flag) w rows is live rest =
-    All-cons (λ (limit : MakerLimit). IsLimit next later limit.pid (limit.fd, limit.rights))
-    (record { at = at; pid = p; fd = f; rights = least_of rights (w flag) }) rows
-    (rights, flag, is, least_is later p f rights (w flag) flag (live flag)) rest
+    → AreRowsOf next later at p fds others
+    → AreRowsOf next later at p (f ∷ fds) (maker_row at p f cell w ++ others)
+row_said next later at p f fds Unknown w others is live rest =
+    needed_said next later at p f fds (w Unsure) others is (live Unsure) rest
+row_said next later at p f fds Closed w others is live rest = inl (inl is, rest)
+row_said next later at p f fds (Held rights flag) w others is live rest = inr (
+  rows.Held (record { at = at; pid = p; fd = f; rights = least_of rights (w flag) }),
+  others,
+  refl,
+  refl,
+  (rights, flag, is, least_is later p f rights (w flag) flag (live flag)),
+  rest,
+)
+
+rows_said : (next : State) (later : List Step) (at p : ℕ) (fds : List ℕ) (w : ℕ → OnExec → ℕ)
+    → ((f : ℕ) (x : OnExec) (k : ℕ) → k < 63 → (holds (w f x) k ≡ true) ↔ Live later p f x k)
+    → AreRowsOf next later at p fds (maker_rows next at p fds w)
+rows_said next later at p [] w live = refl
+rows_said next later at p (f ∷ fds) w live =
+    row_said next later at p f fds (next.cell p f) (w f) (maker_rows next at p fds w) refl (live f)
+    (rows_said next later at p fds w live)
 
 -- the rows of two descriptors after others
-pub both_rows : (s : State) (at p f g : ℕ) (w : ℕ → OnExec → ℕ) (rows : List MakerLimit)
-    → (rows ++ maker_row at p f (s.cell p f) (w f)) ++ maker_row at p g (s.cell p g) (w g)
-    ≡ rows ++ maker_rows s at p (f ∷ g ∷ []) w
-both_rows s at p f g w rows =
-    append_assoc rows (maker_row at p f (s.cell p f) (w f)) (maker_row at p g (s.cell p g) (w g))
-    ∙ ap (λ (r : List MakerLimit). rows ++ (maker_row at p f (s.cell p f) (w f) ++ r))
+pub both_rows : (s : State) (at p f g : ℕ) (w : ℕ → OnExec → ℕ) (made : List MakerRow)
+    → (made ++ maker_row at p f (s.cell p f) (w f)) ++ maker_row at p g (s.cell p g) (w g)
+    ≡ made ++ maker_rows s at p (f ∷ g ∷ []) w
+both_rows s at p f g w made =
+    append_assoc made (maker_row at p f (s.cell p f) (w f)) (maker_row at p g (s.cell p g) (w g))
+    ∙ ap (λ (r : List MakerRow). made ++ (maker_row at p f (s.cell p f) (w f) ++ r))
     (sym (append-nil (maker_row at p g (s.cell p g) (w g))))
-
--- what is in the list, and that each is a limit
-record AreOwn (next : State) (later : List Step) (at p : ℕ) (fds : List ℕ) (rows : List MakerLimit) : Type 0 where
-  places : map place_of rows ≡ held_places next at p fds
-  limits : All (λ (limit : MakerLimit). IsLimit next later limit.pid (limit.fd, limit.rights)) rows
-
-own_places : (next : State) (at p : ℕ) (fds : List ℕ) (w : ℕ → OnExec → ℕ)
-    → map place_of (maker_rows next at p fds w) ≡ held_places next at p fds
-own_places next at p [] w = refl
-own_places next at p (f ∷ fds) w =
-    row_place at p f (next.cell p f) (w f) (maker_rows next at p fds w)
-    ∙ ap (λ (rest : List Place). held_place (next.cell p f) at p f ++ rest) (own_places next at p fds w)
-
-own_limits : (next : State) (later : List Step) (at p : ℕ) (fds : List ℕ) (w : ℕ → OnExec → ℕ)
-    → ((f : ℕ) (x : OnExec) (k : ℕ) → k < 63 → (holds (w f x) k ≡ true) ↔ Live later p f x k)
-    → All (λ (limit : MakerLimit). IsLimit next later limit.pid (limit.fd, limit.rights)) (maker_rows next at p fds w)
-own_limits next later at p [] w live =
-    All-nil (λ (limit : MakerLimit). IsLimit next later limit.pid (limit.fd, limit.rights))
-own_limits next later at p (f ∷ fds) w live =
-    row_limits next later at p f (next.cell p f) (w f) (maker_rows next at p fds w) refl (live f)
-    (own_limits next later at p fds w live)
 
 -- ---- all steps
 
 pub maker_step : (s : State) (t : List Step) (l : Step) (later : List Step) (at : ℕ) (w : ℕ → OnExec → ℕ)
-    (limits : List MakerLimit)
+    (made : List MakerRow)
     → ((f : ℕ) (x : OnExec) (k : ℕ) → k < 63 → (holds (w f x) k ≡ true) ↔ Live later l.line.pid f x k)
-    → AreMakerLimits (ended s (t ++ l ∷ [])) (at + 1) later limits
-    → AreMakerLimits (ended s t) at (l ∷ later)
-    (limits ++ maker_rows (ended s (t ++ l ∷ [])) at l.line.pid (made_fds l.line.item) w)
-maker_step s t l later at w limits live before =
+    → AreMakerRows (ended s (t ++ l ∷ [])) (at + 1) later made
+    → AreMakerRows (ended s t) at (l ∷ later)
+    (made ++ maker_rows (ended s (t ++ l ∷ [])) at l.line.pid (made_fds l.line.item) w)
+maker_step s t l later at w made live before =
     let p : ℕ = l.line.pid in
     let fds : List ℕ = made_fds l.line.item in
     let there : State = ended s (t ++ l ∷ []) in
     let next : State = ended (ended s t) (l ∷ []) in
     let e : there ≡ next = ends_more s t l in
-    let rows : List MakerLimit = maker_rows there at p fds w in
-    let own : AreOwn next later at p fds rows =
-    subst (λ (u : State). AreOwn u later at p fds rows) e
-    (record { places = own_places there at p fds w; limits = own_limits there later at p fds w live }) in
-    (limits, rows, refl, subst (λ (u : State). AreMakerLimits u (at + 1) later limits) e before, own.places, own.limits)
+    let own : List MakerRow = maker_rows there at p fds w in
+    let said : AreRowsOf next later at p fds own =
+    subst (λ (u : State). AreRowsOf u later at p fds own) e (rows_said there later at p fds w live) in
+    (made, own, refl, subst (λ (u : State). AreMakerRows u (at + 1) later made) e before, said)
 
 pub cells_more : (s : State) (t : List Step) (l : Step) → cells_along s (t ++ l ∷ [])
     ≡ cells_along s t ++ cells_made (ended s (t ++ l ∷ [])) l.line.pid (made_fds l.line.item)

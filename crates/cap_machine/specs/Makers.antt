@@ -1,24 +1,30 @@
--- The least rights of each descriptor that a trace makes, right after the step that made it.
-use Rattle.std.specs.Prelude.{◌≡◌, ℕ, ◌+◌, ◌==◌, nat_lt, if◌then◌else◌, List, [], ◌∷◌, ◌++◌, map, reverse}
-use Rattle.std.specs.List.{All, flat_map}
+-- The least rights of each descriptor that a trace makes, right after the step that made it; of an unknown one what later
+-- steps need of it.
+use Rattle.std.specs.Prelude.{◌≡◌, ◌⊎◌, ℕ, ◌+◌, ◌<◌, ◌==◌, nat_lt, if◌then◌else◌, List, [], ◌∷◌, ◌++◌, map, reverse}
+use Rattle.std.specs.List.{flat_map}
+use Rattle.cap_rights.specs.Rights.{all}
 use Rattle.cap_trace.specs.Item.{Item}
 use Rattle.cap_trace.specs.Item as items
 use Rattle.cap_trace.specs.Entry.{kind_of}
 use Rattle.cap_trace.specs.declared.calls.ResultKind.{ResultKind}
-use Rattle.cap_trace.specs.declared.calls.ResultKind.TheVariants.{Fd, Same, FdPair}
+use Rattle.cap_trace.specs.declared.calls.ResultKind.TheVariants.{Fd, Same, FdPair, ChildAndFd}
 use Rattle.cap_trace.specs.declared.line.Answer.{Answer}
 use Rattle.cap_trace.specs.declared.line.Answer.TheVariants as answers
 use Rattle.cap_machine.specs.declared.cell.OnExec.{OnExec}
+use Rattle.cap_machine.specs.declared.cell.OnExec.TheVariants.{Unsure}
 use Rattle.cap_machine.specs.declared.cell.Cell.{Cell}
-use Rattle.cap_machine.specs.declared.cell.Cell.TheVariants.{Held}
+use Rattle.cap_machine.specs.declared.cell.Cell.TheVariants.{Unknown, Closed, Held}
 use Rattle.cap_machine.specs.declared.step.Step.{Step}
 use Rattle.cap_machine.specs.declared.makers.Made.{Made}
 use Rattle.cap_machine.specs.declared.makers.Made.TheVariants.{Nothing, One, Two}
 use Rattle.cap_machine.specs.declared.makers.MakerLimit.{MakerLimit}
+use Rattle.cap_machine.specs.declared.makers.MakerRow.{MakerRow}
+use Rattle.cap_machine.specs.declared.makers.MakerRow.TheVariants as rows
 use Rattle.cap_machine.specs.State.{State}
 use Rattle.cap_machine.specs.History.{after, ended}
-use Rattle.cap_machine.specs.Limits.{IsLimit}
-use Rattle.cap_machine.specs.Limits.{least_of}
+use Rattle.cap_machine.specs.Limits.{IsLimit, least_of}
+use Rattle.cap_machine.specs.LimitsBefore.{IsUnknownLimit}
+use Rattle.cap_machine.specs.Live.{Live}
 
 -- ---- the descriptors that a line makes
 
@@ -31,18 +37,24 @@ abbrev pub two_fds : Answer → List ℕ
 two_fds (answers.Pair n m) = if n == m then n ∷ [] else (if nat_lt n m then m ∷ n ∷ [] else n ∷ m ∷ [])
 two_fds _ = []
 
+-- pdfork(2): beside its child; the child's own return, 0, makes none
+abbrev pub fd_with_child : Answer → List ℕ
+fd_with_child (answers.Pair c n) = if c == 0 then [] else n ∷ []
+fd_with_child _ = []
+
 -- by what a call answers where it doesn't fail
 abbrev pub made_of : ResultKind → Answer → List ℕ
 made_of Fd answer = one_fd answer
 made_of (Same g) answer = one_fd answer
 made_of FdPair answer = two_fds answer
+made_of ChildAndFd answer = fd_with_child answer
 made_of _ answer = []
 
 abbrev pub made_fds : Item → List ℕ
 made_fds (items.Call call answer) = made_of (kind_of call) answer
 made_fds _ = []
 
--- ---- their limits
+-- ---- what is said of them
 
 -- a position, a process and a descriptor
 abbrev pub Place : Type 0
@@ -51,26 +63,37 @@ Place = ℕ × ℕ × ℕ
 abbrev pub place_of : MakerLimit → Place
 place_of limit = (limit.at, limit.pid, limit.fd)
 
-abbrev pub held_place : Cell → ℕ → ℕ → ℕ → List Place
-held_place (Held rights flag) at p f = (at, p, f) ∷ []
-held_place _ at p f = []
+abbrev pub row_place : MakerRow → Place
+row_place (rows.Held limit) = place_of limit
+row_place (rows.Unknown limit) = place_of limit
 
--- those of these descriptors that are held
-abbrev pub held_places : State → ℕ → ℕ → List ℕ → List Place
-held_places s at p [] = []
-held_places s at p (f ∷ fds) = held_place (s.cell p f) at p f ++ held_places s at p fds
+-- the row limits a held descriptor to its live rights, or has the rights that are live in an unknown one, at least one
+abbrev pub IsMakerRow : State → List Step → MakerRow → Type 0
+IsMakerRow s later (rows.Held limit) = IsLimit s later limit.pid (limit.fd, limit.rights)
+IsMakerRow s later (rows.Unknown limit) = IsUnknownLimit s later limit.pid (limit.fd, limit.rights)
 
--- Of each step that makes descriptors, where the steps begin at a position: the limit of each that is then held, to
--- the rights that are live there. The last step comes first, so that each line can be put in right after its step
--- without a shift of the others.
-abbrev pub AreMakerLimits : State → ℕ → List Step → List MakerLimit → Type 0
-AreMakerLimits s at [] limits = limits ≡ []
-AreMakerLimits s at (step ∷ later) limits =
+-- nothing is said of a descriptor: it is closed, or unknown and no right is live in it
+abbrev pub IsUnsaid : State → List Step → ℕ → ℕ → Type 0
+IsUnsaid s later p f = (s.cell p f ≡ Closed)
+    ⊎ ((s.cell p f ≡ Unknown) × ((k : ℕ) → k < 63 → Live later p f Unsure k → ⊥))
+
+-- of these descriptors, in their order, one row each or nothing
+abbrev pub AreRowsOf : State → List Step → ℕ → ℕ → List ℕ → List MakerRow → Type 0
+AreRowsOf s later at p [] own = own ≡ []
+AreRowsOf s later at p (f ∷ fds) own = (IsUnsaid s later p f × AreRowsOf s later at p fds own)
+    ⊎ ((row : MakerRow) × (others : List MakerRow) × (own ≡ row ∷ others) × (row_place row ≡ (at, p, f))
+    × IsMakerRow s later row × AreRowsOf s later at p fds others)
+
+-- Of each step that makes descriptors, where the steps begin at a position: their rows, by what is known and live right
+-- after it. The last step comes first, so that each limit can be put in right after its step without a shift of the
+-- others.
+abbrev pub AreMakerRows : State → ℕ → List Step → List MakerRow → Type 0
+AreMakerRows s at [] made = made ≡ []
+AreMakerRows s at (step ∷ later) made =
     let next = ended s (step ∷ []) in
-    (beyond : List MakerLimit) × (own : List MakerLimit) × (limits ≡ beyond ++ own)
-    × AreMakerLimits next (at + 1) later beyond
-    × (map place_of own ≡ held_places next at step.line.pid (made_fds step.line.item))
-    × All (λ (limit : MakerLimit). IsLimit next later limit.pid (limit.fd, limit.rights)) own
+    (beyond : List MakerRow) × (own : List MakerRow) × (made ≡ beyond ++ own)
+    × AreMakerRows next (at + 1) later beyond
+    × AreRowsOf next later at step.line.pid (made_fds step.line.item) own
 
 -- ---- as the code has them
 
@@ -79,13 +102,19 @@ listed_made Nothing = []
 listed_made (One f) = f ∷ []
 listed_made (Two f g) = f ∷ g ∷ []
 
--- the limit of a descriptor with this cell, when these rights are wanted of it by its flag
-abbrev pub maker_row : ℕ → ℕ → ℕ → Cell → (OnExec → ℕ) → List MakerLimit
-maker_row at p f (Held rights flag) wanted =
-    record { at = at; pid = p; fd = f; rights = least_of rights (wanted flag) } ∷ []
-maker_row at p f _ wanted = []
+-- the row of an unknown descriptor, when these rights are wanted of it
+abbrev pub needed_row : ℕ → ℕ → ℕ → ℕ → List MakerRow
+needed_row at p f wanted = if least_of all wanted == 0 then []
+    else rows.Unknown (record { at = at; pid = p; fd = f; rights = least_of all wanted }) ∷ []
 
-abbrev pub maker_rows : State → ℕ → ℕ → List ℕ → (ℕ → OnExec → ℕ) → List MakerLimit
+-- the row of a descriptor with this cell, when these rights are wanted of it by its flag
+abbrev pub maker_row : ℕ → ℕ → ℕ → Cell → (OnExec → ℕ) → List MakerRow
+maker_row at p f (Held rights flag) wanted =
+    rows.Held (record { at = at; pid = p; fd = f; rights = least_of rights (wanted flag) }) ∷ []
+maker_row at p f Unknown wanted = needed_row at p f (wanted Unsure)
+maker_row at p f Closed wanted = []
+
+abbrev pub maker_rows : State → ℕ → ℕ → List ℕ → (ℕ → OnExec → ℕ) → List MakerRow
 maker_rows s at p fds wanted = flat_map (λ f. maker_row at p f (s.cell p f) (wanted f)) fds
 
 -- the cells of these descriptors, the last one's first

@@ -84,7 +84,7 @@ pub use limit_laws::{
 pub use limits::{Entering, Limits, LimitsBefore, limits_before, live_after, machine_after};
 pub use live::LiveRights;
 pub use machine::Machine;
-pub use makers::{MakerLimit, limits_of_makers};
+pub use makers::{MakerLimit, MakerRow, limits_of_makers};
 pub use provenance::{CellEnd, CellLink, CellProvenance, ModeEnd, ModeLink, ModeProvenance};
 pub use provenance_laws::{
     chains_are_enough, chains_skip_no_line, mode_matters_where_it_decides, named_lines_matter,

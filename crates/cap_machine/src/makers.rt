@@ -1,4 +1,4 @@
-//! The least rights of each descriptor that a trace makes.
+//! The least rights of each descriptor that a trace makes, or what is needed of it where it isn't known.
 
 ghost use Rattle.std.specs.Prelude.{◌≡◌, ◌++◌, OnOk, IfOk, List, [], ◌∷◌};
 ghost use Rattle.cap_trace.specs.Entry.{IsAnswer, kind_of, fcntl_kind};
@@ -12,11 +12,11 @@ ghost use Rattle.cap_machine.specs.Code.LiveRights.{AreLive};
 ghost use Rattle.cap_machine.specs.State.{State};
 ghost use Rattle.cap_machine.specs.Steps.{step, steps};
 ghost use Rattle.cap_machine.specs.State.{start_state};
-ghost use Rattle.cap_machine.specs.Makers.{listed_made, one_fd, two_fds, made_of, made_fds, cells_made};
-ghost use Rattle.cap_machine.specs.Makers.{maker_row, maker_rows, cells_along, AreMakerLimits};
+ghost use Rattle.cap_machine.specs.Makers.{listed_made, one_fd, two_fds, fd_with_child, made_of, made_fds, cells_made};
+ghost use Rattle.cap_machine.specs.Makers.{needed_row, maker_row, maker_rows, cells_along, AreMakerRows};
 ghost use Rattle.cap_machine.specs.Code.Wanted.{wanted};
 
-use crate::cell::{Cell, Profile};
+use crate::cell::{Cell, OnExec, Profile};
 use crate::limit::least_rights;
 use crate::live::LiveRights;
 use crate::machine::Machine;
@@ -65,6 +65,18 @@ fn two_made(answer: &Answer) -> Made
     }
 }
 
+/// The descriptor that a call made beside a child.
+fn one_with_child(answer: &Answer) -> Made
+    requires { FitsPair answer.now }
+    ensures { listed_made result ≡ fd_with_child answer.now }
+{
+    match answer {
+        Answer::Pair(0, _) => Made::Nothing,
+        Answer::Pair(_, fd) => Made::One(*fd as Fd),
+        _ => Made::Nothing,
+    }
+}
+
 /// The descriptors that a call made.
 #[inline(always)]
 fn made_by_call(call: &Call<'_>, answer: &Answer) -> Made
@@ -108,6 +120,7 @@ fn made_by_bare(call: BareCall, answer: &Answer) -> Made
         BareCall::Kqueue | BareCall::ShmOpen | BareCall::MqOpen | BareCall::Fhopen => {
             one_made(answer)
         }
+        BareCall::Pdfork => one_with_child(answer),
         _ => Made::Nothing,
     }
 }
@@ -123,7 +136,7 @@ fn made_by(line: &LineRef<'_>) -> Made
     }
 }
 
-/// The least rights of a descriptor that a line made.
+/// Rights of a descriptor that a line made.
 #[derive(Clone, Copy, Debug, PartialEq, Eq)]
 pub struct MakerLimit {
     /// The position of the line, from 1.
@@ -136,36 +149,68 @@ pub struct MakerLimit {
     pub rights: RightSet,
 }
 
-/// Adds the limit of a descriptor with this cell, where it is held.
-fn add_limit(
-    limits: &mut Vec<MakerLimit>,
+/// What is said of a descriptor that a line made.
+#[derive(Clone, Copy, Debug, PartialEq, Eq)]
+pub enum MakerRow {
+    /// It is held: those of its rights that later lines need.
+    Held(MakerLimit),
+    /// It isn't known: the rights that later lines need of it, at least one.
+    Unknown(MakerLimit),
+}
+
+/// Adds what is needed of an unknown descriptor, where something is.
+fn add_needed(
+    rows: &mut Vec<MakerRow>,
+    at: usize,
+    pid: Pid,
+    fd: Fd,
+    needed: &RightSet,
+) -> Result<(), NoMemory>
+    ensures { OnOk result (rows.new.items ≡ rows.old.items ++ needed_row at pid fd needed.now) }
+{
+    let rights = least_rights(&RightSet::all(), needed);
+    if rights != RightSet::none() {
+        rows.push(MakerRow::Unknown(MakerLimit {
+            at,
+            pid,
+            fd,
+            rights,
+        }))?;
+    }
+    Ok(())
+}
+
+/// Adds what is said of a descriptor with this cell.
+fn add_row(
+    rows: &mut Vec<MakerRow>,
     at: usize,
     pid: Pid,
     fd: Fd,
     cell: &Cell,
     live: &LiveRights,
 ) -> Result<(), NoMemory>
-    ensures { OnOk result (limits.new.items
-        ≡ limits.old.items ++ maker_row at pid fd cell.now (wanted live.now pid fd)) }
+    ensures { OnOk result (rows.new.items
+        ≡ rows.old.items ++ maker_row at pid fd cell.now (wanted live.now pid fd)) }
 {
     match cell {
         Cell::Held(held, flag) => {
             let rights = least_rights(held, &live.needed(pid, fd, *flag));
-            limits.push(MakerLimit {
+            rows.push(MakerRow::Held(MakerLimit {
                 at,
                 pid,
                 fd,
                 rights,
-            })?;
+            }))?;
             Ok(())
         }
-        _ => Ok(()),
+        Cell::Unknown => add_needed(rows, at, pid, fd, &live.needed(pid, fd, OnExec::Unsure)),
+        Cell::Closed => Ok(()),
     }
 }
 
-/// Takes the last of the cells, and adds the limit of a descriptor with this cell, where it is held.
+/// Takes the last of the cells, and adds what is said of a descriptor with this cell.
 fn add_last(
-    limits: &mut Vec<MakerLimit>,
+    rows: &mut Vec<MakerRow>,
     cells: &mut Vec<Cell>,
     at: usize,
     pid: Pid,
@@ -174,17 +219,17 @@ fn add_last(
 ) -> Result<(), NoMemory>
     ensures { (before : List Cell) (last : Cell) → cells.old.items ≡ before ++ last ∷ []
         → OnOk result ((cells.new.items ≡ before)
-        × (limits.new.items ≡ limits.old.items ++ maker_row at pid fd last (wanted live.now pid fd))) }
+        × (rows.new.items ≡ rows.old.items ++ maker_row at pid fd last (wanted live.now pid fd))) }
 {
     match cells.pop() {
-        Some(last) => add_limit(limits, at, pid, fd, &last, live),
+        Some(last) => add_row(rows, at, pid, fd, &last, live),
         None => Ok(()),
     }
 }
 
-/// Takes the cells of the descriptors that a line made, and adds the limits of those that are held.
-fn add_limits(
-    limits: &mut Vec<MakerLimit>,
+/// Takes the cells of the descriptors that a line made, and adds what is said of each.
+fn add_rows(
+    rows: &mut Vec<MakerRow>,
     cells: &mut Vec<Cell>,
     at: usize,
     pid: Pid,
@@ -193,14 +238,14 @@ fn add_limits(
 ) -> Result<(), NoMemory>
     ensures { (s : State) (before : List Cell) → cells.old.items ≡ before ++ cells_made s pid (listed_made made.now)
         → OnOk result ((cells.new.items ≡ before)
-        × (limits.new.items ≡ limits.old.items ++ maker_rows s at pid (listed_made made.now) (wanted live.now pid))) }
+        × (rows.new.items ≡ rows.old.items ++ maker_rows s at pid (listed_made made.now) (wanted live.now pid))) }
 {
     match made {
         Made::Nothing => Ok(()),
-        Made::One(fd) => add_last(limits, cells, at, pid, *fd, live),
+        Made::One(fd) => add_last(rows, cells, at, pid, *fd, live),
         Made::Two(first, second) => {
-            add_last(limits, cells, at, pid, *first, live)?;
-            add_last(limits, cells, at, pid, *second, live)
+            add_last(rows, cells, at, pid, *first, live)?;
+            add_last(rows, cells, at, pid, *second, live)
         }
     }
 }
@@ -265,29 +310,30 @@ fn made_along(
     Ok(cells)
 }
 
-/// Adds the limits of the descriptors that a line made, and passes it.
+/// Adds what is said of the descriptors that a line made, and passes it.
 fn pass_line(
-    limits: &mut Vec<MakerLimit>,
+    rows: &mut Vec<MakerRow>,
     cells: &mut Vec<Cell>,
     live: &mut LiveRights,
     at: usize,
     profile: Profile,
     line: &Line,
 ) -> Result<(), NoMemory>
-    ensures limits { (s : State) (before : List Cell)
+    ensures rows { (s : State) (before : List Cell)
         → cells.old.items ≡ before ++ cells_made s line.now.pid (made_fds line.now.item)
-        → OnOk result ((cells.new.items ≡ before) × (limits.new.items
-        ≡ limits.old.items ++ maker_rows s at line.now.pid (made_fds line.now.item) (wanted live.old line.now.pid))) }
+        → OnOk result ((cells.new.items ≡ before) × (rows.new.items
+        ≡ rows.old.items ++ maker_rows s at line.now.pid (made_fds line.now.item) (wanted live.old line.now.pid))) }
     ensures live { OnOk result ((later : List Step)
         → AreLive live.old later → AreLive live.new (step profile line.now ∷ later)) }
 {
     let view = line.view();
-    add_limits(limits, cells, at, view.pid, &made_by(&view), live)?;
+    add_rows(rows, cells, at, view.pid, &made_by(&view), live)?;
     live.pass_view(at, profile, &view)
 }
 
-/// The least rights of each descriptor that a trace makes and that is then held, right after the line that made it. The
-/// last line comes first, and of two descriptors of a line the larger.
+/// Of each descriptor that a trace makes, right after the line that made it: its least rights where it is then held, and
+/// what later lines need of it where it isn't known. The last line comes first, and of two descriptors of a line the
+/// larger.
 ///
 /// It goes through the lines once forth and once back. Its memory grows with the descriptors that they make or need
 /// rights of.
@@ -298,24 +344,16 @@ pub fn limits_of_makers(
     profile: Profile,
     start: &Start,
     lines: &[Line],
-) -> Result<Vec<MakerLimit>, NoMemory>
-    ensures { IfOk result (λ limits.
-        AreMakerLimits (start_state start.now) 1 (steps profile lines.now) limits.items) }
+) -> Result<Vec<MakerRow>, NoMemory>
+    ensures { IfOk result (λ rows. AreMakerRows (start_state start.now) 1 (steps profile lines.now) rows.items) }
 {
     let mut cells = made_along(alloc, profile, start, lines)?;
     let mut live = LiveRights::none(alloc);
-    let mut limits = Vec::new(alloc);
+    let mut rows = Vec::new(alloc);
     let mut rest = lines;
     while let Some((line, before)) = rest.split_last() {
-        pass_line(
-            &mut limits,
-            &mut cells,
-            &mut live,
-            rest.len(),
-            profile,
-            line,
-        )?;
+        pass_line(&mut rows, &mut cells, &mut live, rest.len(), profile, line)?;
         rest = before;
     }
-    Ok(limits)
+    Ok(rows)
 }

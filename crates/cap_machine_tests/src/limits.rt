@@ -3,8 +3,8 @@
 use crate::lines::lines_of;
 use crate::starts::rights_of;
 use cap_machine::{
-    Cell, Entering, Limit, Limits, LimitsBefore, LiveRights, MakerLimit, Mode, OnExec, Profile,
-    Start, limits_before, limits_of_makers,
+    Cell, Entering, Limit, Limits, LimitsBefore, LiveRights, MakerLimit, MakerRow, Mode, OnExec,
+    Profile, Start, limits_before, limits_of_makers,
 };
 use cap_rights::RightSet;
 use cap_trace::Line;
@@ -171,30 +171,54 @@ static BLOCKED: [(&[u8], usize, u32, Option<usize>); 6] = [
     ),
 ];
 
-/// A trace, and the limit of each descriptor that it makes.
-type MakerRow = (&'static [u8], &'static [(usize, u32, u32, &'static [u8])]);
+/// Whether a descriptor that was made is held, the position and the process of its line, the descriptor, and the rights.
+type MadeRow = (bool, usize, u32, u32, &'static [u8]);
 
-static MADE: [MakerRow; 5] = [
+/// A trace, and what is said of each descriptor that it makes.
+type MakerCase = (&'static [u8], &'static [MadeRow]);
+
+static MADE: [MakerCase; 8] = [
     (
         TALLY,
         &[
-            (5, 2102, 5, b"CAP_READ"),
-            (3, 2101, 4, b"CAP_WRITE|CAP_FSYNC"),
-            (2, 2101, 3, b"CAP_READ|CAP_SEEK|CAP_FSTAT"),
+            (true, 5, 2102, 5, b"CAP_READ"),
+            (true, 3, 2101, 4, b"CAP_WRITE|CAP_FSYNC"),
+            (true, 2, 2101, 3, b"CAP_READ|CAP_SEEK|CAP_FSTAT"),
         ],
     ),
     // Of two the larger comes first.
     (
         b"100 pipe() RET 3,4\n100 write(4) RET 1\n100 read(3) RET 1",
-        &[(1, 100, 4, b"CAP_WRITE"), (1, 100, 3, b"CAP_READ")],
+        &[
+            (true, 1, 100, 4, b"CAP_WRITE"),
+            (true, 1, 100, 3, b"CAP_READ"),
+        ],
     ),
     // No right is named that isn't held.
     (
         b"100 @start(3)\n100 cap_rights_limit(3,CAP_READ) RET 0\n100 dup(3) RET 4\n100 write(4) RET 1",
-        &[(3, 100, 4, b"NONE")],
+        &[(true, 3, 100, 4, b"NONE")],
     ),
-    // Nothing is known of what accept(2) makes.
-    (b"100 accept(3) RET 4\n100 read(4) RET 1", &[]),
+    // Nothing is known of what accept(2) makes, and nothing is said where nothing is needed.
+    (
+        b"100 accept(3) RET 4\n100 accept(3) RET 5\n100 read(4) RET 1\n100 write(5) RET -1 errno 32",
+        &[(false, 1, 100, 4, b"CAP_READ")],
+    ),
+    // What a child needs is needed of its parent.
+    (
+        b"100 accept4(3,0) RET 4\n100 fork() RET 101\n101 read(4) RET 1\n100 kqueue() RET 5\n100 close(4) RET 0",
+        &[(false, 1, 100, 4, b"CAP_READ")],
+    ),
+    // But not of what pdfork(2) makes, nor does its line in the child make anything.
+    (
+        b"100 pdfork() RET 101,4\n101 pdfork() RET 0,4\n101 fstat(4) RET 0\n100 @uses(4,CAP_PDKILL)",
+        &[(false, 1, 100, 4, b"CAP_PDKILL")],
+    ),
+    // A limit takes away what comes after it.
+    (
+        b"100 dup(3) RET 4\n100 open(\"a\",O_RDONLY) RET 5\n100 cap_rights_limit(4,CAP_READ) RET 0\n100 write(4) RET 1",
+        &[(true, 2, 100, 5, b"NONE"), (false, 1, 100, 4, b"CAP_READ")],
+    ),
     (
         b"100 open(\"a\",O_RDONLY) RET -1 errno 2\n100 read(0) RET 1",
         &[],
@@ -359,33 +383,41 @@ fn is_blocked(alloc: Global, row: &(&[u8], usize, u32, Option<usize>)) -> bool {
     }
 }
 
-/// Whether a limit is as in a row.
-fn is_limit(limit: &MakerLimit, row: &(usize, u32, u32, &[u8])) -> bool {
-    limit.at == row.0 && limit.pid == row.1 && limit.fd == row.2 && limit.rights == rights_of(row.3)
+/// Whether rights are those of a row.
+fn is_limit(limit: &MakerLimit, row: &MadeRow) -> bool {
+    limit.at == row.1 && limit.pid == row.2 && limit.fd == row.3 && limit.rights == rights_of(row.4)
 }
 
-/// Whether these are the limits.
-fn are_limits(limits: &[MakerLimit], rows: &[(usize, u32, u32, &[u8])]) -> bool {
-    let mut are_same = limits.len() == rows.len();
-    for (limit, row) in limits.iter().zip(rows) {
-        are_same = are_same && is_limit(limit, row);
+/// Whether what is said of a descriptor is as in a row.
+fn is_said(said: &MakerRow, row: &MadeRow) -> bool {
+    match said {
+        MakerRow::Held(limit) => row.0 && is_limit(limit, row),
+        MakerRow::Unknown(limit) => !row.0 && is_limit(limit, row),
+    }
+}
+
+/// Whether all that is said is as in rows.
+fn are_said(said: &[MakerRow], rows: &[MadeRow]) -> bool {
+    let mut are_same = said.len() == rows.len();
+    for (one, row) in said.iter().zip(rows) {
+        are_same = are_same && is_said(one, row);
     }
     are_same
 }
 
-/// Whether these are the limits of what lines make.
-fn makes(alloc: Global, start: &Start, lines: &[Line], rows: &[(usize, u32, u32, &[u8])]) -> bool {
+/// Whether this is said of what lines make.
+fn makes(alloc: Global, start: &Start, lines: &[Line], rows: &[MadeRow]) -> bool {
     match limits_of_makers(alloc, Profile::Two, start, lines) {
-        Ok(limits) => are_limits(&limits, rows),
+        Ok(said) => are_said(&said, rows),
         Err(_) => false,
     }
 }
 
-/// Whether these are the limits of what the lines of a trace make.
-fn is_made(alloc: Global, row: &MakerRow) -> bool {
+/// Whether this is said of what the lines of a trace make.
+fn is_made(alloc: Global, case: &MakerCase) -> bool {
     let start = Start::unknown(alloc);
-    match lines_of(alloc, row.0) {
-        Some(lines) => makes(alloc, &start, &lines, row.1),
+    match lines_of(alloc, case.0) {
+        Some(lines) => makes(alloc, &start, &lines, case.1),
         None => false,
     }
 }
@@ -519,7 +551,7 @@ fn lines_are_in_the_way(rt: HostRuntime) {
 
 #[test]
 fn makers_are_limited(rt: HostRuntime) {
-    for row in &MADE {
-        assert!(rt; is_made(rt.alloc(), row));
+    for case in &MADE {
+        assert!(rt; is_made(rt.alloc(), case));
     }
 }
