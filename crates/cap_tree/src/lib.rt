@@ -2,8 +2,8 @@
 //!
 //! - [`Segment`] is what can sum up a list of items: a value made by `empty` and `one`, and joined by `join`.
 //! - [`Tree`] is a list of items with a summary of it. An edit gives a new tree and leaves the old one as it was.
-//! - [`Meter`] counts the joins that were made. An edit of `n` items makes at most `12 * bits n + 12` joins, where
-//!   `bits n` is the number of binary digits of `n`.
+//! - [`Meter`] counts joins. An edit of `n` items counts at most `12 * bits n + 12`, where `bits n` is the number of
+//!   binary digits of `n`. The tree knows a meter only as what [`Counts`], and can make none.
 //!
 //! A call allocates with the allocator that it is given. If an allocation is refused it answers [`NoMemory`], and all
 //! trees that were there before are as they were.
@@ -30,7 +30,7 @@ mod tree;
 
 pub use items::Items;
 pub use laws::bits_are_digits;
-pub use meter::Meter;
+pub use meter::{Counts, Meter};
 pub use no_memory::NoMemory;
 pub use segment::Segment;
 pub use similarity::{Side, Similarity};

@@ -3,6 +3,13 @@ ghost use Rattle.std.specs.Prelude.{◌≡◌, ℕ, ◌+◌, ◌^◌, ◌<◌};
 
 use std::marker::Model;
 
+/// What joins are counted on. The trait has no constructor and no call at all. So code that knows a meter by nothing
+/// else, as that of the tree, can only hand on the one that it was given.
+pub trait Counts {
+    /// The joins counted.
+    ghost count: { Self → ℕ };
+}
+
 /// A count of joins, from 0 to `u64::MAX`. A contract sees the number.
 #[derive(Drop)]
 pub struct Meter {
@@ -15,6 +22,10 @@ impl Model for Meter {
     ghost view = { λ m. m.count };
 
     ghost invariant = { λ m. m.count < 2 ^ 64 };
+}
+
+impl Counts for Meter {
+    ghost count = { λ joins. joins };
 }
 
 impl Meter {

@@ -11,7 +11,6 @@ ghost use Rattle.cap_tree.specs.Heights.{DifferByAtMost, HaveChanged, IsLeastHei
 ghost use Rattle.cap_tree.specs.Run.{values};
 ghost use Rattle.cap_tree.specs.Sides.{beside, IsJoinAt};
 
-use crate::meter::Meter;
 use crate::no_memory::NoMemory;
 use crate::run::{self, Edit};
 use crate::segment::Segment;
@@ -53,7 +52,7 @@ impl<S: Segment> Model for Node<S> {
 
     ghost use Rattle.cap_tree.specs.Falls.{depth_le_height};
 
-    ghost size_decreases = { λ a h. depth_le_height S.Segment a.shape a.height h.balanced };
+    ghost size_decreases = { λ a h. depth_le_height S.Segment S.Meter.Counts a.shape a.height h.balanced };
 }
 
 impl<S: Segment> Node<S> {
@@ -85,17 +84,17 @@ impl<S: Segment> Node<S> {
     /// The leaf that holds a run.
     fn leaf(
         alloc: Global,
-        meter: &mut Meter,
+        meter: &mut S::Meter,
         run: Vec<Rc<S::Item>>,
     ) -> Result<Rc<Node<S>>, NoMemory>
         requires some { 0 < vec_len run }
         requires fits { vec_len run ≤ LEAF_ITEMS }
-        requires room { meter.old + vec_len run < 2 ^ 64 }
+        requires room { S.Meter.count meter.old + vec_len run < 2 ^ 64 }
         ensures items { IfOk result (λ n. n.value.0 ≡ values run.items) }
         ensures height { IfOk result (λ n. n.value.1 ≡ 0) }
-        ensures counted { OnOk result (meter.new + 1 ≡ meter.old + vec_len run) }
-        ensures not_less { meter.old ≤ meter.new }
-        ensures joins { meter.new < meter.old + vec_len run }
+        ensures counted { OnOk result (S.Meter.count meter.new + 1 ≡ S.Meter.count meter.old + vec_len run) }
+        ensures not_less { S.Meter.count meter.old ≤ S.Meter.count meter.new }
+        ensures joins { S.Meter.count meter.new < S.Meter.count meter.old + vec_len run }
     {
         let summary = S::sum(alloc, meter, run.as_slice())?;
         let node = Node {
@@ -133,20 +132,20 @@ impl<S: Segment> Node<S> {
     /// The part on the side and the other one, whose heights are at most one apart.
     fn branch(
         alloc: Global,
-        meter: &mut Meter,
+        meter: &mut S::Meter,
         side: Side,
         part: Rc<Node<S>>,
         other: Rc<Node<S>>,
     ) -> Result<Rc<Node<S>>, NoMemory>
         requires balanced { DifferByAtMost 1 part.value.1 other.value.1 }
         requires few { length part.value.0 + length other.value.0 ≤ 2 ^ 30 }
-        requires room { meter.old + 1 < 2 ^ 64 }
+        requires room { S.Meter.count meter.old + 1 < 2 ^ 64 }
         ensures items { IfOk result (λ n. n.value.0 ≡ beside side part.value.0 other.value.0) }
         ensures count { IfOk result (λ n. length n.value.0 ≡ length part.value.0 + length other.value.0) }
         ensures height { IfOk result (λ n. n.value.1 ≡ max part.value.1 other.value.1 + 1) }
-        ensures counted { OnOk result (meter.new ≡ meter.old + 1) }
-        ensures not_less { meter.old ≤ meter.new }
-        ensures joins { meter.new ≤ meter.old + 1 }
+        ensures counted { OnOk result (S.Meter.count meter.new ≡ S.Meter.count meter.old + 1) }
+        ensures not_less { S.Meter.count meter.old ≤ S.Meter.count meter.new }
+        ensures joins { S.Meter.count meter.new ≤ S.Meter.count meter.old + 1 }
     {
         let (left, right) = side.order(part, other);
         let summary = S::join(alloc, meter, left.summary(), right.summary())?;
@@ -171,18 +170,18 @@ impl<S: Segment> Node<S> {
     /// one goes to the low one, or where it is the higher part, its own two parts go to either side.
     fn rotate(
         alloc: Global,
-        meter: &mut Meter,
+        meter: &mut S::Meter,
         side: Side,
         high: &Node<S>,
         low: Rc<Node<S>>,
     ) -> Result<Rc<Node<S>>, NoMemory>
         requires two_higher { high.now.1 ≡ low.value.1 + 2 }
         requires few { length high.now.0 + length low.value.0 ≤ 2 ^ 30 }
-        requires room { meter.old + 3 < 2 ^ 64 }
+        requires room { S.Meter.count meter.old + 3 < 2 ^ 64 }
         ensures items { IfOk result (λ n. n.value.0 ≡ beside side high.now.0 low.value.0) }
         ensures height { IfOk result (λ n. (high.now.1 ≤ n.value.1) × (n.value.1 ≤ high.now.1 + 1)) }
-        ensures not_less { meter.old ≤ meter.new }
-        ensures joins { meter.new ≤ meter.old + 3 }
+        ensures not_less { S.Meter.count meter.old ≤ S.Meter.count meter.new }
+        ensures joins { S.Meter.count meter.new ≤ S.Meter.count meter.old + 3 }
     {
         let (outer, inner) = high.parts(side)?;
         if outer.height() >= inner.height() {
@@ -208,7 +207,7 @@ impl<S: Segment> Node<S> {
     /// The leaf of the items of two leaves. Their summaries serve, so one join is enough.
     fn merge(
         alloc: Global,
-        meter: &mut Meter,
+        meter: &mut S::Meter,
         side: Side,
         part: &Node<S>,
         other: &Node<S>,
@@ -216,12 +215,12 @@ impl<S: Segment> Node<S> {
         requires leaf { part.now.1 ≡ 0 }
         requires other_leaf { other.now.1 ≡ 0 }
         requires fit { length part.now.0 + length other.now.0 ≤ LEAF_ITEMS }
-        requires room { meter.old + 1 < 2 ^ 64 }
+        requires room { S.Meter.count meter.old + 1 < 2 ^ 64 }
         ensures items { IfOk result (λ n. n.value.0 ≡ beside side part.now.0 other.now.0) }
         ensures height { IfOk result (λ n. n.value.1 ≡ 0) }
-        ensures counted { OnOk result (meter.new ≡ meter.old + 1) }
-        ensures not_less { meter.old ≤ meter.new }
-        ensures joins { meter.new ≤ meter.old + 1 }
+        ensures counted { OnOk result (S.Meter.count meter.new ≡ S.Meter.count meter.old + 1) }
+        ensures not_less { S.Meter.count meter.old ≤ S.Meter.count meter.new }
+        ensures joins { S.Meter.count meter.new ≤ S.Meter.count meter.old + 1 }
     {
         let (left, right) = side.order(part, other);
         let (Shape::Leaf(front), Shape::Leaf(back)) = (&left.shape, &right.shape) else {
@@ -243,7 +242,7 @@ impl<S: Segment> Node<S> {
         &self,
         was: &Node<S>,
         alloc: Global,
-        meter: &mut Meter,
+        meter: &mut S::Meter,
         side: Side,
         part: Rc<Node<S>>,
         other: Rc<Node<S>>,
@@ -253,12 +252,12 @@ impl<S: Segment> Node<S> {
         requires alike { AreAlike S.same_effect S.same_precondition similarity was.now.2 part.value.2 }
         requires changed { HaveChanged part.value.1 other.value.1 self.now.1 }
         requires few { length part.value.0 + length other.value.0 ≤ 2 ^ 30 }
-        requires room { meter.old + 3 < 2 ^ 64 }
+        requires room { S.Meter.count meter.old + 3 < 2 ^ 64 }
         ensures items { IfOk result (λ new. new.0.value.0 ≡ beside side part.value.0 other.value.0) }
         ensures height { IfOk result (λ new. DifferByAtMost 1 new.0.value.1 self.now.1) }
         ensures alike { IfOk result (λ new. AreAlike S.same_effect S.same_precondition new.1 self.now.2 new.0.value.2) }
-        ensures not_less { meter.old ≤ meter.new }
-        ensures joins { meter.new ≤ meter.old + 3 }
+        ensures not_less { S.Meter.count meter.old ≤ S.Meter.count meter.new }
+        ensures joins { S.Meter.count meter.new ≤ S.Meter.count meter.old + 3 }
     {
         let near = part.height();
         let far = other.height();
@@ -294,20 +293,20 @@ impl<S: Segment> Node<S> {
     pub(crate) fn edited(
         this: &Rc<Node<S>>,
         alloc: Global,
-        meter: &mut Meter,
+        meter: &mut S::Meter,
         at: usize,
         edit: Edit<S::Item>,
     ) -> Result<Option<(Rc<Node<S>>, Similarity)>, NoMemory>
         requires allowed { IsAllowed edit (length this.now.value.0) at }
-        requires room { meter.old + 2 ^ 32 < 2 ^ 64 }
+        requires room { S.Meter.count meter.old + 2 ^ 32 < 2 ^ 64 }
         ensures items { IfOk result (λ o. MatchOption o (edited edit this.now.value.0 at ≡ [])
             (λ new. new.0.value.0 ≡ edited edit this.now.value.0 at)) }
         ensures height { IfOk result (λ o. MatchOption o (this.now.value.1 ≡ 0)
             (λ new. DifferByAtMost 1 new.0.value.1 this.now.value.1)) }
         ensures alike { IfOk result (λ o. IfSome o
             (λ new. AreAlike S.same_effect S.same_precondition new.1 this.now.value.2 new.0.value.2)) }
-        ensures not_less { meter.old ≤ meter.new }
-        ensures joins { meter.new ≤ meter.old + min LEAF_ITEMS (length this.now.value.0) + 3 * this.now.value.1 }
+        ensures not_less { S.Meter.count meter.old ≤ S.Meter.count meter.new }
+        ensures joins { S.Meter.count meter.new ≤ S.Meter.count meter.old + min LEAF_ITEMS (length this.now.value.0) + 3 * this.now.value.1 }
     {
         let node: &Node<S> = this;
         match &node.shape {
@@ -338,18 +337,18 @@ impl<S: Segment> Node<S> {
     fn edit_leaf(
         this: &Rc<Node<S>>,
         alloc: Global,
-        meter: &mut Meter,
+        meter: &mut S::Meter,
         at: usize,
         edit: Edit<S::Item>,
     ) -> Result<Option<Rc<Node<S>>>, NoMemory>
         requires leaf { this.now.value.1 ≡ 0 }
         requires allowed { IsAllowed edit (length this.now.value.0) at }
-        requires room { meter.old + 2 ^ 32 < 2 ^ 64 }
+        requires room { S.Meter.count meter.old + 2 ^ 32 < 2 ^ 64 }
         ensures items { IfOk result (λ o. MatchOption o (edited edit this.now.value.0 at ≡ [])
             (λ n. n.value.0 ≡ edited edit this.now.value.0 at)) }
         ensures height { IfOk result (λ o. IfSome o (λ n. n.value.1 ≤ 1)) }
-        ensures not_less { meter.old ≤ meter.new }
-        ensures joins { meter.new ≤ meter.old + min LEAF_ITEMS (length this.now.value.0) }
+        ensures not_less { S.Meter.count meter.old ≤ S.Meter.count meter.new }
+        ensures joins { S.Meter.count meter.new ≤ S.Meter.count meter.old + min LEAF_ITEMS (length this.now.value.0) }
     {
         let node: &Node<S> = this;
         let Shape::Leaf(run) = &node.shape else {
@@ -375,17 +374,17 @@ impl<S: Segment> Node<S> {
     fn insert_at_end(
         this: &Rc<Node<S>>,
         alloc: Global,
-        meter: &mut Meter,
+        meter: &mut S::Meter,
         side: Side,
         item: Rc<S::Item>,
     ) -> Result<Rc<Node<S>>, NoMemory>
         requires leaf { this.now.value.1 ≡ 0 }
         requires few { length this.now.value.0 ≤ LEAF_ITEMS }
-        requires room { meter.old + 1 < 2 ^ 64 }
+        requires room { S.Meter.count meter.old + 1 < 2 ^ 64 }
         ensures items { IfOk result (λ n. n.value.0 ≡ beside side (item.value ∷ []) this.now.value.0) }
         ensures height { IfOk result (λ n. n.value.1 ≤ 1) }
-        ensures not_less { meter.old ≤ meter.new }
-        ensures joins { meter.new ≤ meter.old + 1 }
+        ensures not_less { S.Meter.count meter.old ≤ S.Meter.count meter.new }
+        ensures joins { S.Meter.count meter.new ≤ S.Meter.count meter.old + 1 }
     {
         let old = this.clone()?;
         let new = Node::leaf(alloc, meter, run::single(alloc, item)?)?;
@@ -398,16 +397,16 @@ impl<S: Segment> Node<S> {
     /// The leaf that holds a run, or a branch over its halves where the run has an item too many.
     fn leaves(
         alloc: Global,
-        meter: &mut Meter,
+        meter: &mut S::Meter,
         run: Vec<Rc<S::Item>>,
     ) -> Result<Rc<Node<S>>, NoMemory>
         requires some { 0 < vec_len run }
         requires at_most_one_more { vec_len run ≤ LEAF_ITEMS + 1 }
-        requires room { meter.old + vec_len run < 2 ^ 64 }
+        requires room { S.Meter.count meter.old + vec_len run < 2 ^ 64 }
         ensures items { IfOk result (λ n. n.value.0 ≡ values run.items) }
         ensures height { IfOk result (λ n. n.value.1 ≤ 1) }
-        ensures not_less { meter.old ≤ meter.new }
-        ensures joins { meter.new < meter.old + vec_len run }
+        ensures not_less { S.Meter.count meter.old ≤ S.Meter.count meter.new }
+        ensures joins { S.Meter.count meter.new < S.Meter.count meter.old + vec_len run }
     {
         if run.len() <= LEAF_ITEMS {
             return Node::leaf(alloc, meter, run);
@@ -455,17 +454,17 @@ impl<S: Segment> Node<S> {
     /// A node of these items, whose leaves are full but for the last.
     pub(crate) fn build(
         alloc: Global,
-        meter: &mut Meter,
+        meter: &mut S::Meter,
         list: &[Rc<S::Item>],
     ) -> Result<Rc<Node<S>>, NoMemory>
         requires some { 0 < length list.now }
         requires few { length list.now ≤ 2 ^ 30 }
-        requires room { meter.old + length list.now < 2 ^ 64 }
+        requires room { S.Meter.count meter.old + length list.now < 2 ^ 64 }
         ensures items { IfOk result (λ n. n.value.0 ≡ values list.now) }
         ensures height { IfOk result (λ n. IsLeastHeight LEAF_ITEMS n.value.1 (length list.now)) }
-        ensures counted { OnOk result (meter.new + 1 ≡ meter.old + length list.now) }
-        ensures not_less { meter.old ≤ meter.new }
-        ensures joins { meter.new < meter.old + length list.now }
+        ensures counted { OnOk result (S.Meter.count meter.new + 1 ≡ S.Meter.count meter.old + length list.now) }
+        ensures not_less { S.Meter.count meter.old ≤ S.Meter.count meter.new }
+        ensures joins { S.Meter.count meter.new < S.Meter.count meter.old + length list.now }
     {
         if list.len() <= LEAF_ITEMS {
             let run = run::shared(alloc, list)?;

@@ -4,7 +4,7 @@ ghost use Rattle.cap_tree.specs.Alike.{AreAlike};
 ghost use Rattle.cap_tree.specs.Run.{values};
 ghost use Rattle.cap_tree.specs.Sides.{IsJoinAt, part_at, other_at};
 
-use crate::meter::Meter;
+use crate::meter::Counts;
 use crate::no_memory::NoMemory;
 use crate::similarity::{Side, Similarity};
 use std::alloc::Global;
@@ -13,12 +13,15 @@ use std::rc::Rc;
 /// A summary of a list of items. Two summaries join to that of the one list followed by the other.
 ///
 /// The clauses below are the laws that every segment keeps; the tree knows nothing else of it. An `impl` gives `Item`,
-/// `empty`, `one`, `len` and `join`, with what `stands` and `size` mean and the law `sized`.
+/// `Meter`, `empty`, `one`, `len` and `join`, with what `stands` and `size` mean and the law `sized`.
 ///
 /// One that has [`Segment::rejoin`] as well may share with what was there before an edit. It says by `composes`,
 /// `same_effect` and `same_precondition` what it needs to know of that.
 pub trait Segment: Drop {
     type Item: Drop;
+
+    /// What joins are counted on.
+    type Meter: Counts;
 
     /// The value sums up the list.
     ghost stands: { Self → List Self.Item → Type 0 };
@@ -51,29 +54,38 @@ pub trait Segment: Drop {
     ///
     /// The two lengths must be at most `2 ^ 30` together, and the meter must have room for one more. A join that
     /// succeeds counts one; one that fails counts at most one. Both parts stay as they are.
-    fn join(alloc: Global, meter: &mut Meter, left: &Self, right: &Self) -> Result<Self, NoMemory>
+    fn join(
+        alloc: Global,
+        meter: &mut Self::Meter,
+        left: &Self,
+        right: &Self,
+    ) -> Result<Self, NoMemory>
         requires few { size left.now + size right.now ≤ 2 ^ 30 }
-        requires room { meter.old + 1 < 2 ^ 64 }
+        requires room { Self.Meter.count meter.old + 1 < 2 ^ 64 }
         ensures joined { IfOk result
             (λ s. (t u : List Self.Item) → stands left.now t → stands right.now u → stands s (t ++ u)) }
         ensures composed { IfOk result (λ s. composes left.now right.now s) }
-        ensures counted { OnOk result (meter.new ≡ meter.old + 1) }
-        ensures not_less { meter.old ≤ meter.new }
-        ensures at_most_one { meter.new ≤ meter.old + 1 };
+        ensures counted { OnOk result (Self.Meter.count meter.new ≡ Self.Meter.count meter.old + 1) }
+        ensures not_less { Self.Meter.count meter.old ≤ Self.Meter.count meter.new }
+        ensures at_most_one { Self.Meter.count meter.new ≤ Self.Meter.count meter.old + 1 };
 
     /// The summary of one item or more, in order: that of the first, joined to those of the others one by one, unless this
     /// type has a cheaper way.
     ///
     /// There must be at most `2 ^ 30` items, and the meter must have room for as many joins. It counts one join fewer than
     /// there are items; a call that fails counts no more.
-    fn sum(alloc: Global, meter: &mut Meter, items: &[Rc<Self::Item>]) -> Result<Self, NoMemory>
+    fn sum(
+        alloc: Global,
+        meter: &mut Self::Meter,
+        items: &[Rc<Self::Item>],
+    ) -> Result<Self, NoMemory>
         requires some { 0 < length items.now }
         requires few { length items.now ≤ 2 ^ 30 }
-        requires room { meter.old + length items.now < 2 ^ 64 }
+        requires room { Self.Meter.count meter.old + length items.now < 2 ^ 64 }
         ensures stands { IfOk result (λ s. stands s (values items.now)) }
-        ensures counted { OnOk result (meter.new + 1 ≡ meter.old + length items.now) }
-        ensures not_less { meter.old ≤ meter.new }
-        ensures at_most { meter.new < meter.old + length items.now }
+        ensures counted { OnOk result (Self.Meter.count meter.new + 1 ≡ Self.Meter.count meter.old + length items.now) }
+        ensures not_less { Self.Meter.count meter.old ≤ Self.Meter.count meter.new }
+        ensures at_most { Self.Meter.count meter.new < Self.Meter.count meter.old + length items.now }
     {
         let mut sum = Self::one(alloc, &items[0])?;
         for at in 1..items.len() {
@@ -89,7 +101,7 @@ pub trait Segment: Drop {
     /// same.
     fn rejoin(
         alloc: Global,
-        meter: &mut Meter,
+        meter: &mut Self::Meter,
         left: &Self,
         right: &Self,
         old: &Self,
@@ -98,16 +110,16 @@ pub trait Segment: Drop {
         similarity: Similarity,
     ) -> Result<(Self, Similarity), NoMemory>
         requires few { size left.now + size right.now ≤ 2 ^ 30 }
-        requires room { meter.old + 1 < 2 ^ 64 }
+        requires room { Self.Meter.count meter.old + 1 < 2 ^ 64 }
         requires old { IsJoinAt composes side was.now (other_at side left.now right.now) old.now }
         requires alike { AreAlike same_effect same_precondition similarity was.now (part_at side left.now right.now) }
         ensures joined { IfOk result (λ new. (t u : List Self.Item) → stands left.now t → stands right.now u
             → stands new.0 (t ++ u)) }
         ensures composed { IfOk result (λ new. composes left.now right.now new.0) }
         ensures alike { IfOk result (λ new. AreAlike same_effect same_precondition new.1 old.now new.0) }
-        ensures counted { OnOk result (meter.new ≡ meter.old + 1) }
-        ensures not_less { meter.old ≤ meter.new }
-        ensures at_most_one { meter.new ≤ meter.old + 1 }
+        ensures counted { OnOk result (Self.Meter.count meter.new ≡ Self.Meter.count meter.old + 1) }
+        ensures not_less { Self.Meter.count meter.old ≤ Self.Meter.count meter.new }
+        ensures at_most_one { Self.Meter.count meter.new ≤ Self.Meter.count meter.old + 1 }
     {
         let _ = old;
         let _ = was;

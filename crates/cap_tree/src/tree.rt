@@ -5,7 +5,6 @@ ghost use Rattle.cap_tree.specs.Bits.{bound};
 ghost use Rattle.cap_tree.specs.Edits.{edited, IsAllowed};
 ghost use Rattle.cap_tree.specs.Run.{values};
 
-use crate::meter::Meter;
 use crate::no_memory::NoMemory;
 use crate::node::Node;
 use crate::run::{self, Edit};
@@ -61,15 +60,15 @@ impl<S: Segment> Tree<S> {
     /// The tree of these items. It makes exactly one join fewer than there are items, and none for no items.
     pub fn from_list(
         alloc: Global,
-        meter: &mut Meter,
+        meter: &mut S::Meter,
         items: Vec<Rc<S::Item>>,
     ) -> Result<Tree<S>, NoMemory>
         requires few { vec_len items ≤ 2 ^ 30 }
-        requires room { meter.old + 2 ^ 32 < 2 ^ 64 }
+        requires room { S.Meter.count meter.old + 2 ^ 32 < 2 ^ 64 }
         ensures list { IfOk result (λ t. t ≡ map (λ item. item.value) items.items) }
-        ensures counted { OnOk result (meter.new ≡ meter.old + (vec_len items - 1)) }
-        ensures not_less { meter.old ≤ meter.new }
-        ensures joins { meter.new ≤ meter.old + (vec_len items - 1) }
+        ensures counted { OnOk result (S.Meter.count meter.new ≡ S.Meter.count meter.old + (vec_len items - 1)) }
+        ensures not_less { S.Meter.count meter.old ≤ S.Meter.count meter.new }
+        ensures joins { S.Meter.count meter.new ≤ S.Meter.count meter.old + (vec_len items - 1) }
     {
         if items.is_empty() {
             return Tree::empty(alloc);
@@ -146,16 +145,16 @@ impl<S: Segment> Tree<S> {
     pub fn insert(
         &self,
         alloc: Global,
-        meter: &mut Meter,
+        meter: &mut S::Meter,
         at: usize,
         item: Rc<S::Item>,
     ) -> Result<Tree<S>, NoMemory>
         requires in_range { at ≤ length self.now }
         requires few { length self.now < 2 ^ 30 }
-        requires room { meter.old + 2 ^ 32 < 2 ^ 64 }
+        requires room { S.Meter.count meter.old + 2 ^ 32 < 2 ^ 64 }
         ensures list { IfOk result (λ t. t ≡ insert self.now at item.value) }
-        ensures not_less { meter.old ≤ meter.new }
-        ensures joins { meter.new ≤ meter.old + bound (length self.now + 1) }
+        ensures not_less { S.Meter.count meter.old ≤ S.Meter.count meter.new }
+        ensures joins { S.Meter.count meter.new ≤ S.Meter.count meter.old + bound (length self.now + 1) }
     {
         self.edited(alloc, meter, at, Edit::Insert(item))
     }
@@ -163,12 +162,12 @@ impl<S: Segment> Tree<S> {
     /// The tree without the item at the place, and those after it one place earlier.
     ///
     /// Makes at most `12 * bits n + 12` joins, n the old length.
-    pub fn remove(&self, alloc: Global, meter: &mut Meter, at: usize) -> Result<Tree<S>, NoMemory>
+    pub fn remove(&self, alloc: Global, meter: &mut S::Meter, at: usize) -> Result<Tree<S>, NoMemory>
         requires in_range { at < length self.now }
-        requires room { meter.old + 2 ^ 32 < 2 ^ 64 }
+        requires room { S.Meter.count meter.old + 2 ^ 32 < 2 ^ 64 }
         ensures list { IfOk result (λ t. t ≡ remove self.now at) }
-        ensures not_less { meter.old ≤ meter.new }
-        ensures joins { meter.new ≤ meter.old + bound (length self.now) }
+        ensures not_less { S.Meter.count meter.old ≤ S.Meter.count meter.new }
+        ensures joins { S.Meter.count meter.new ≤ S.Meter.count meter.old + bound (length self.now) }
     {
         self.edited(alloc, meter, at, Edit::Remove)
     }
@@ -177,15 +176,15 @@ impl<S: Segment> Tree<S> {
     pub fn replace(
         &self,
         alloc: Global,
-        meter: &mut Meter,
+        meter: &mut S::Meter,
         at: usize,
         item: Rc<S::Item>,
     ) -> Result<Tree<S>, NoMemory>
         requires in_range { at < length self.now }
-        requires room { meter.old + 2 ^ 32 < 2 ^ 64 }
+        requires room { S.Meter.count meter.old + 2 ^ 32 < 2 ^ 64 }
         ensures list { IfOk result (λ t. t ≡ slice_set self.now at item.value) }
-        ensures not_less { meter.old ≤ meter.new }
-        ensures joins { meter.new ≤ meter.old + bound (length self.now) }
+        ensures not_less { S.Meter.count meter.old ≤ S.Meter.count meter.new }
+        ensures joins { S.Meter.count meter.new ≤ S.Meter.count meter.old + bound (length self.now) }
     {
         self.edited(alloc, meter, at, Edit::Replace(item))
     }
@@ -194,15 +193,15 @@ impl<S: Segment> Tree<S> {
     fn edited(
         &self,
         alloc: Global,
-        meter: &mut Meter,
+        meter: &mut S::Meter,
         at: usize,
         edit: Edit<S::Item>,
     ) -> Result<Tree<S>, NoMemory>
         requires allowed { IsAllowed edit (length self.now) at }
-        requires room { meter.old + 2 ^ 32 < 2 ^ 64 }
+        requires room { S.Meter.count meter.old + 2 ^ 32 < 2 ^ 64 }
         ensures list { IfOk result (λ t. t ≡ edited edit self.now at) }
-        ensures not_less { meter.old ≤ meter.new }
-        ensures joins { (n : ℕ) → length self.now ≤ n → meter.new ≤ meter.old + bound n }
+        ensures not_less { S.Meter.count meter.old ≤ S.Meter.count meter.new }
+        ensures joins { (n : ℕ) → length self.now ≤ n → S.Meter.count meter.new ≤ S.Meter.count meter.old + bound n }
     {
         let Root::Full(root) = &self.root else {
             let Edit::Insert(item) = edit else {

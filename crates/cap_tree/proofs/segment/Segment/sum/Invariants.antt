@@ -6,5 +6,5 @@ use Rattle.cap_tree.proofs.segment.Segment.sum.Given as goal
 abbrev pub invariant-loop-at : goal.invariant-loop-at
 invariant-loop-at g l = record {
   stands : g.Self.Segment.stands l.sum (values (take l.at l.items));
-  counted : l.meter + 1 ≡ l.fn.meter + l.at;
+  counted : g.Self.Meter.Counts.count l.meter + 1 ≡ g.Self.Meter.Counts.count l.fn.meter + l.at;
 }
