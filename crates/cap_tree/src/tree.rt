@@ -57,7 +57,7 @@ impl<S: Segment> Clone for Tree<S> {
 }
 
 impl<S: Segment> Tree<S> {
-    /// The tree of these items. It makes exactly one join fewer than there are items, and none for no items.
+    /// The tree of these items. It counts exactly one join fewer than there are items, and none for no items.
     pub fn from_list(
         alloc: Global,
         meter: &mut S::Meter,
@@ -141,7 +141,7 @@ impl<S: Segment> Tree<S> {
 
     /// The tree with the item at the place, and those from there on one place later. The place is at most the length.
     ///
-    /// Makes at most `12 * bits n + 12` joins, n the new length.
+    /// Counts at most `12 * bits n + 12` joins, n the new length.
     pub fn insert(
         &self,
         alloc: Global,
@@ -161,8 +161,13 @@ impl<S: Segment> Tree<S> {
 
     /// The tree without the item at the place, and those after it one place earlier.
     ///
-    /// Makes at most `12 * bits n + 12` joins, n the old length.
-    pub fn remove(&self, alloc: Global, meter: &mut S::Meter, at: usize) -> Result<Tree<S>, NoMemory>
+    /// Counts at most `12 * bits n + 12` joins, n the old length.
+    pub fn remove(
+        &self,
+        alloc: Global,
+        meter: &mut S::Meter,
+        at: usize,
+    ) -> Result<Tree<S>, NoMemory>
         requires in_range { at < length self.now }
         requires room { S.Meter.count meter.old + 2 ^ 32 < 2 ^ 64 }
         ensures list { IfOk result (λ t. t ≡ remove self.now at) }
@@ -172,7 +177,7 @@ impl<S: Segment> Tree<S> {
         self.edited(alloc, meter, at, Edit::Remove)
     }
 
-    /// The tree with this item in place of the one that is there. Makes at most `12 * bits n + 12` joins, n the length.
+    /// The tree with this item in place of the one that is there. Counts at most `12 * bits n + 12` joins, n the length.
     pub fn replace(
         &self,
         alloc: Global,
