@@ -19,24 +19,15 @@ pub joined-at : {N S : Type 0} (composes : S → S → S → Type 0) (summary : 
 joined-at composes summary Left left right part other whole p o is = rw (p, o) is
 joined-at composes summary Right left right part other whole p o is = rw (p, o) is
 
-changed-of : (part other new whole : ℕ) → whole ≡ max part other + 1 → DifferByAtMost 1 part other
-    → DifferByAtMost 1 new part → HaveChanged new other whole
-changed-of part other new whole high near is = record {
-  near = (omega arith, omega arith);
-  not_above = omega arith;
-  not_far_below = omega arith;
-  both_lower = λ low. (omega arith, omega arith);
-}
-
 -- the heights after an edit of one part
 pub have-changed : {N : Type 0} (height : N → ℕ) (side : Side) (left right part other : N) (new whole : ℕ)
     → part ≡ part_at side left right → other ≡ other_at side left right
     → whole ≡ max (height left) (height right) + 1 → DifferByAtMost 1 (height left) (height right)
-    → DifferByAtMost 1 new (height part) → HaveChanged new (height other) whole
-have-changed height Left left right part other new whole p o high near is =
-    rw o (changed-of (height left) (height right) new whole high near (rw p at is))
-have-changed height Right left right part other new whole p o high near is =
-    rw o (changed-of (height right) (height left) new whole (omega arith) (near.1, near.0) (rw p at is))
+    → DifferByAtMost 1 new (height part) → HaveChanged (height part) new (height other) whole
+have-changed height Left left right part other new whole p o high balanced near =
+    record { high = rw (p, o) high; balanced = rw (p, o) balanced; near = near }
+have-changed height Right left right part other new whole p o high balanced near =
+    record { high = rw (p, o) (omega arith); balanced = rw (p, o) (balanced.1, balanced.0); near = near }
 
 -- a replaced part's joins, and three more, are within what an edit of the whole may make
 pub joins-of-part : {N X : Type 0} (items : N → List X) (height : N → ℕ) (side : Side) (left right part : N)

@@ -4,7 +4,7 @@
 //! than the items. A node's height is 0 for a leaf, else that of the higher part and one, and two parts are at most one
 //! apart. An edit makes anew the leaf that holds its place and the nodes above it, and shares all others.
 ghost use Rattle.std.specs.Prelude.{◌≡◌, ℕ, ◌+◌, ◌-◌, ◌*◌, ◌/◌, ◌^◌, ◌<◌, ◌≤◌, min, max, List, [], ◌∷◌, ◌++◌, length};
-ghost use Rattle.std.specs.Prelude.{vec_len, slice_range, true, IfOk, OnOk, MatchOption, IfSome};
+ghost use Rattle.std.specs.Prelude.{vec_len, slice_range, true, false, IfOk, OnOk, MatchOption, IfSome};
 ghost use Rattle.cap_tree.specs.Alike.{AreAlike};
 ghost use Rattle.cap_tree.specs.Edits.{edited, IsAllowed};
 ghost use Rattle.cap_tree.specs.Heights.{DifferByAtMost, HaveChanged, IsLeastHeight};
@@ -67,6 +67,7 @@ impl<S: Segment> Node<S> {
     /// How many items there are.
     pub(crate) fn len(&self) -> usize
         ensures count { result ≡ length self.now.0 }
+        ensures some { 0 < result }
         ensures few { result ≤ 2 ^ 30 }
     {
         self.summary.len()
@@ -77,6 +78,7 @@ impl<S: Segment> Node<S> {
         ensures value { result ≡ self.now.1 }
         ensures lower { self.now.1 < length self.now.0 }
         ensures wide { 2 ^ (self.now.1 / 2) ≤ length self.now.0 }
+        ensures exceeds_leaf { 0 < self.now.1 → LEAF_ITEMS < length self.now.0 }
     {
         self.height
     }
@@ -105,7 +107,7 @@ impl<S: Segment> Node<S> {
         Ok(Rc::new(alloc, node)?)
     }
 
-    /// The node over two parts, whose items in order are summed up.
+    /// The node over two parts, whose items in order are summed up. Two leaves must not fit into one.
     fn over(
         alloc: Global,
         summary: S,
@@ -115,6 +117,8 @@ impl<S: Segment> Node<S> {
         requires stands { S.stands summary (left.value.0 ++ right.value.0) }
         requires composed { S.composes left.value.2 right.value.2 summary }
         requires balanced { DifferByAtMost 1 left.value.1 right.value.1 }
+        requires apart { left.value.1 ≡ 0 → right.value.1 ≡ 0
+            → LEAF_ITEMS < length left.value.0 + length right.value.0 }
         requires few { length left.value.0 + length right.value.0 ≤ 2 ^ 30 }
         ensures items { IfOk result (λ n. n.value.0 ≡ left.value.0 ++ right.value.0) }
         ensures height { IfOk result (λ n. n.value.1 ≡ max left.value.1 right.value.1 + 1) }
@@ -129,7 +133,7 @@ impl<S: Segment> Node<S> {
         Ok(Rc::new(alloc, node)?)
     }
 
-    /// The part on the side and the other one, whose heights are at most one apart.
+    /// The part on the side and the other one, whose heights are at most one apart. Two leaves must not fit into one.
     fn branch(
         alloc: Global,
         meter: &mut S::Meter,
@@ -138,6 +142,8 @@ impl<S: Segment> Node<S> {
         other: Rc<Node<S>>,
     ) -> Result<Rc<Node<S>>, NoMemory>
         requires balanced { DifferByAtMost 1 part.value.1 other.value.1 }
+        requires apart { part.value.1 ≡ 0 → other.value.1 ≡ 0
+            → LEAF_ITEMS < length part.value.0 + length other.value.0 }
         requires few { length part.value.0 + length other.value.0 ≤ 2 ^ 30 }
         requires room { S.Meter.count meter.old + 1 < 2 ^ 64 }
         ensures items { IfOk result (λ n. n.value.0 ≡ beside side part.value.0 other.value.0) }
@@ -167,7 +173,8 @@ impl<S: Segment> Node<S> {
     }
 
     /// The high part on the side and the low one, which an edit has set two levels apart: the inner part of the high
-    /// one goes to the low one, or where it is the higher part, its own two parts go to either side.
+    /// one goes to the low one, or where it is the higher part, its own two parts go to either side. Leaves that meet
+    /// become one where they fit.
     fn rotate(
         alloc: Global,
         meter: &mut S::Meter,
@@ -179,19 +186,20 @@ impl<S: Segment> Node<S> {
         requires few { length high.now.0 + length low.value.0 ≤ 2 ^ 30 }
         requires room { S.Meter.count meter.old + 3 < 2 ^ 64 }
         ensures items { IfOk result (λ n. n.value.0 ≡ beside side high.now.0 low.value.0) }
-        ensures height { IfOk result (λ n. (high.now.1 ≤ n.value.1) × (n.value.1 ≤ high.now.1 + 1)) }
+        ensures height { IfOk result (λ n. DifferByAtMost 1 n.value.1 high.now.1) }
+        ensures not_lower { LEAF_ITEMS ≤ length low.value.0 → IfOk result (λ n. high.now.1 ≤ n.value.1) }
         ensures not_less { S.Meter.count meter.old ≤ S.Meter.count meter.new }
         ensures joins { S.Meter.count meter.new ≤ S.Meter.count meter.old + 3 }
     {
         let (outer, inner) = high.parts(side)?;
         if outer.height() >= inner.height() {
-            let lower = Node::branch(alloc, meter, side, inner, low)?;
+            let lower = Node::united(alloc, meter, side, inner, low)?;
             return Node::branch(alloc, meter, side, outer, lower);
         }
         let middle: &Node<S> = &inner;
         let (near, far) = middle.parts(side)?;
-        let front = Node::branch(alloc, meter, side, outer, near)?;
-        let back = Node::branch(alloc, meter, side, far, low)?;
+        let front = Node::united(alloc, meter, side, outer, near)?;
+        let back = Node::united(alloc, meter, side, far, low)?;
         Node::branch(alloc, meter, side, front, back)
     }
 
@@ -200,6 +208,9 @@ impl<S: Segment> Node<S> {
         ensures leaf { result ≡ true → self.now.1 ≡ 0 }
         ensures other_leaf { result ≡ true → other.now.1 ≡ 0 }
         ensures fit { result ≡ true → length self.now.0 + length other.now.0 ≤ LEAF_ITEMS }
+        ensures short { result ≡ true → length other.now.0 < LEAF_ITEMS }
+        ensures apart { result ≡ false → self.now.1 ≡ 0 → other.now.1 ≡ 0
+            → LEAF_ITEMS < length self.now.0 + length other.now.0 }
     {
         self.height == 0 && other.height == 0 && self.len() + other.len() <= LEAF_ITEMS
     }
@@ -236,6 +247,32 @@ impl<S: Segment> Node<S> {
         Ok(Rc::new(alloc, node)?)
     }
 
+    /// The part on the side and the other one under a node, or as one leaf where they are leaves that fit into one.
+    fn united(
+        alloc: Global,
+        meter: &mut S::Meter,
+        side: Side,
+        part: Rc<Node<S>>,
+        other: Rc<Node<S>>,
+    ) -> Result<Rc<Node<S>>, NoMemory>
+        requires balanced { DifferByAtMost 1 part.value.1 other.value.1 }
+        requires few { length part.value.0 + length other.value.0 ≤ 2 ^ 30 }
+        requires room { S.Meter.count meter.old + 1 < 2 ^ 64 }
+        ensures items { IfOk result (λ n. n.value.0 ≡ beside side part.value.0 other.value.0) }
+        ensures count { IfOk result (λ n. length n.value.0 ≡ length part.value.0 + length other.value.0) }
+        ensures not_lower { IfOk result (λ n. max part.value.1 other.value.1 ≤ n.value.1) }
+        ensures not_higher { IfOk result (λ n. n.value.1 ≤ max part.value.1 other.value.1 + 1) }
+        ensures higher { LEAF_ITEMS ≤ length other.value.0
+            → IfOk result (λ n. max part.value.1 other.value.1 < n.value.1) }
+        ensures not_less { S.Meter.count meter.old ≤ S.Meter.count meter.new }
+        ensures joins { S.Meter.count meter.new ≤ S.Meter.count meter.old + 1 }
+    {
+        if part.fit_in_a_leaf(&other) {
+            return Node::merge(alloc, meter, side, &part, &other);
+        }
+        Node::branch(alloc, meter, side, part, other)
+    }
+
     /// This node with the part on the side in place of an old one, balanced anew, and what of both nodes is known to be
     /// the same; `similarity` says it of the parts. Two leaves become one as soon as one can hold all items.
     fn rebalance(
@@ -250,7 +287,8 @@ impl<S: Segment> Node<S> {
     ) -> Result<(Rc<Node<S>>, Similarity), NoMemory>
         requires old { IsJoinAt S.composes side was.now.2 other.value.2 self.now.2 }
         requires alike { AreAlike S.same_effect S.same_precondition similarity was.now.2 part.value.2 }
-        requires changed { HaveChanged part.value.1 other.value.1 self.now.1 }
+        requires changed { HaveChanged was.now.1 part.value.1 other.value.1 self.now.1 }
+        requires long { 0 < was.now.1 → LEAF_ITEMS ≤ length part.value.0 }
         requires few { length part.value.0 + length other.value.0 ≤ 2 ^ 30 }
         requires room { S.Meter.count meter.old + 3 < 2 ^ 64 }
         ensures items { IfOk result (λ new. new.0.value.0 ≡ beside side part.value.0 other.value.0) }
@@ -269,7 +307,7 @@ impl<S: Segment> Node<S> {
             let node = Node::rotate(alloc, meter, side.opposite(), &other, part)?;
             return Ok((node, Similarity::none()));
         }
-        if self.height == 1 && part.fit_in_a_leaf(&other) {
+        if part.fit_in_a_leaf(&other) {
             let node = Node::merge(alloc, meter, side, &part, &other)?;
             return Ok((node, Similarity::none()));
         }
@@ -303,10 +341,13 @@ impl<S: Segment> Node<S> {
             (λ new. new.0.value.0 ≡ edited edit this.now.value.0 at)) }
         ensures height { IfOk result (λ o. MatchOption o (this.now.value.1 ≡ 0)
             (λ new. DifferByAtMost 1 new.0.value.1 this.now.value.1)) }
+        ensures long { IfOk result (λ o. IfSome o
+            (λ new. 0 < this.now.value.1 → LEAF_ITEMS ≤ length new.0.value.0)) }
         ensures alike { IfOk result (λ o. IfSome o
             (λ new. AreAlike S.same_effect S.same_precondition new.1 this.now.value.2 new.0.value.2)) }
         ensures not_less { S.Meter.count meter.old ≤ S.Meter.count meter.new }
-        ensures joins { S.Meter.count meter.new ≤ S.Meter.count meter.old + min LEAF_ITEMS (length this.now.value.0) + 3 * this.now.value.1 }
+        ensures joins { S.Meter.count meter.new
+            ≤ S.Meter.count meter.old + min LEAF_ITEMS (length this.now.value.0) + 3 * this.now.value.1 }
     {
         let node: &Node<S> = this;
         match &node.shape {
@@ -388,10 +429,7 @@ impl<S: Segment> Node<S> {
     {
         let old = this.clone()?;
         let new = Node::leaf(alloc, meter, run::single(alloc, item)?)?;
-        if new.fit_in_a_leaf(&old) {
-            return Node::merge(alloc, meter, side, &new, &old);
-        }
-        Node::branch(alloc, meter, side, new, old)
+        Node::united(alloc, meter, side, new, old)
     }
 
     /// The leaf that holds a run, or a branch over its halves where the run has an item too many.
@@ -411,10 +449,30 @@ impl<S: Segment> Node<S> {
         if run.len() <= LEAF_ITEMS {
             return Node::leaf(alloc, meter, run);
         }
-        let (front, back) = run.as_slice().split_at(run.len() / 2);
+        let (front, back) = Node::halves(alloc, meter, run.as_slice())?;
+        Node::branch(alloc, meter, Side::Left, front, back)
+    }
+
+    /// The two leaves of a run that has an item too many for one. Each has at least half of what a leaf may hold.
+    fn halves(
+        alloc: Global,
+        meter: &mut S::Meter,
+        run: &[Rc<S::Item>],
+    ) -> Result<(Rc<Node<S>>, Rc<Node<S>>), NoMemory>
+        requires one_too_many { length run.now ≡ LEAF_ITEMS + 1 }
+        requires room { S.Meter.count meter.old + length run.now < 2 ^ 64 }
+        ensures items { IfOk result (λ two. two.0.value.0 ++ two.1.value.0 ≡ values run.now) }
+        ensures count { IfOk result (λ two. length two.0.value.0 + length two.1.value.0 ≡ length run.now) }
+        ensures front { IfOk result (λ two. (two.0.value.1 ≡ 0) × (LEAF_ITEMS / 2 ≤ length two.0.value.0)) }
+        ensures back { IfOk result (λ two. (two.1.value.1 ≡ 0) × (LEAF_ITEMS / 2 ≤ length two.1.value.0)) }
+        ensures counted { OnOk result (S.Meter.count meter.new + 2 ≡ S.Meter.count meter.old + length run.now) }
+        ensures not_less { S.Meter.count meter.old ≤ S.Meter.count meter.new }
+        ensures joins { S.Meter.count meter.new < S.Meter.count meter.old + length run.now }
+    {
+        let (front, back) = run.split_at(run.len() / 2);
         let left = Node::build(alloc, meter, front)?;
         let right = Node::build(alloc, meter, back)?;
-        Node::branch(alloc, meter, Side::Left, left, right)
+        Ok((left, right))
     }
 
     /// The run of the leaf around the place, and where in it the place is.

@@ -60,7 +60,7 @@ fn has(tree: &Tree<Watched>, count: usize) -> bool {
         && tree.get(count - 1).allowed.get() == summary.watch.allowed.get()
         && tree.iter().next().is_some()
         && tree.range(count - 1..count).next().is_some()
-        && (count > 47 || tree.leaf_at(count / 2).0.len() == count)
+        && (count > 48 || tree.leaf_at(count / 2).0.len() == count)
 }
 
 /// Makes the edit of a turn with no summary allowed, with one, and so on until it succeeds. Whether the meter counts

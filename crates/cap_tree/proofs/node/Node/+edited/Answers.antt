@@ -1,5 +1,5 @@
 use Rattle.std.proofs.Common.{ap}
-use Rattle.cap_tree.proofs.Edited.{edited-beside, beside-nothing, few-beside}
+use Rattle.cap_tree.proofs.Edited.{edited-beside, beside-nothing, few-beside, long-edited}
 use Rattle.cap_tree.proofs.Replaced.{joined-at, have-changed, joins-of-part}
 use Rattle.cap_tree.proofs.node.Node.+edited.Goals as goal
 
@@ -49,7 +49,7 @@ rebalance-requires-clause-changed g t c =
     let near = rw c.in-Some-changed.is at c.in_ok-changed-in-Branch.ensures.height in
     let changed = have-changed (λ n. n.now.value.1) c.of_place-side.result.0 _ _ _ _ _ _
     c.order.ensures.part c.order.ensures.other balanced.0 balanced.1 near in
-    rw (c.in_ok-kept-in-Branch.ensures.cases, ← whole) changed
+    rw (c.deref-in-Some-changed.ensures, c.in_ok-kept-in-Branch.ensures.cases, ← whole) changed
 
 pub returns-in_ok-new-in-Some-changed-clause-joins : goal.returns-in_ok-new-in-Some-changed-clause-joins
 returns-in_ok-new-in-Some-changed-clause-joins g t c =
@@ -59,3 +59,22 @@ returns-in_ok-new-in-Some-changed-clause-joins g t c =
     let joins = joins-of-part (λ n. n.now.value.0) (λ n. n.now.value.1) c.of_place-side.result.0 _ _ _ _ _ _ _ _
     c.order.ensures.part balanced.0 c.edited.ensures.joins c.rebalance.ensures.joins in
     rw (← all, ← whole) joins
+
+pub returns-in-None-changed-clause-long : goal.returns-in-None-changed-clause-long
+returns-in-None-changed-clause-long g t c = λ above.
+    let all = rw c.deref-node.ensures at (ap (λ d. d.0) c.node.view_is) in
+    let high = rw c.deref-node.ensures at (ap (λ d. d.1) c.node.view_is) in
+    let long = rw all at (c.node.invariant.exceeds_leaf (rw high above)) in
+    rw (returns-in-None-changed-clause-items g t c) (long-edited c.args.edit _ c.args.at long c.requires.allowed)
+
+pub returns-in_ok-new-in-Some-changed-clause-long : goal.returns-in_ok-new-in-Some-changed-clause-long
+returns-in_ok-new-in-Some-changed-clause-long g t c = λ above.
+    let all = rw c.deref-node.ensures at (ap (λ d. d.0) c.node.view_is) in
+    let high = rw c.deref-node.ensures at (ap (λ d. d.1) c.node.view_is) in
+    let long = rw all at (c.node.invariant.exceeds_leaf (rw high above)) in
+    rw (returns-in_ok-new-in-Some-changed-clause-items g t c)
+    (long-edited c.args.edit _ c.args.at long c.requires.allowed)
+
+pub rebalance-requires-clause-long : goal.rebalance-requires-clause-long
+rebalance-requires-clause-long g t c =
+    rw c.deref-in-Some-changed.ensures (rw c.in-Some-changed.is at c.in_ok-changed-in-Branch.ensures.long)

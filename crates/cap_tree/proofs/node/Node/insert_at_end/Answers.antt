@@ -4,31 +4,21 @@ use Rattle.cap_tree.proofs.node.Node.insert_at_end.Goals as goal
 
 pub returns-clause-items : goal.returns-clause-items
 returns-clause-items g c =
-    rw (c.in_ok-new.ensures.items, c.in_ok-single.ensures.item, c.in_ok-old.ensures.cases) at c.branch-alloc.ensures.items
+    rw (c.in_ok-new.ensures.items, c.in_ok-single.ensures.item, c.in_ok-old.ensures.cases) at c.united.ensures.items
 
 pub returns-clause-height : goal.returns-clause-height
 returns-clause-height g c =
     let new = c.in_ok-new.ensures.height in
     let old : c.in_ok-old.old.value.1 ≡ 0 = rw c.in_ok-old.ensures.cases c.requires.leaf in
-    IfOk-weaker c.branch-alloc.result
-    (λ n. n.value.1 ≡ max c.in_ok-new.new.value.1 c.in_ok-old.old.value.1 + 1) (λ n. n.value.1 ≤ 1)
-    (λ n e. omega arith) c.branch-alloc.ensures.height
-
-pub returns-then-fit_in_a_leaf-clause-height : goal.returns-then-fit_in_a_leaf-clause-height
-returns-then-fit_in_a_leaf-clause-height g c =
-    IfOk-weaker c.merge.result (λ n. n.value.1 ≡ 0) (λ n. n.value.1 ≤ 1) (λ n e. omega arith) c.merge.ensures.height
+    IfOk-weaker c.united.result
+    (λ n. n.value.1 ≤ max c.in_ok-new.new.value.1 c.in_ok-old.old.value.1 + 1) (λ n. n.value.1 ≤ 1)
+    (λ n e. omega arith) c.united.ensures.not_higher
 
 pub leaf-requires-clause-room : goal.leaf-requires-clause-room
 leaf-requires-clause-room g c = omega (arith, c.in_ok-single.ensures.one)
 
-pub merge-requires-clause-room : goal.merge-requires-clause-room
-merge-requires-clause-room g c = omega (arith, c.in_ok-single.ensures.one)
-
-pub branch-alloc-requires-clause-room : goal.branch-alloc-requires-clause-room
-branch-alloc-requires-clause-room g c = omega (arith, c.in_ok-single.ensures.one)
-
-pub returns-then-fit_in_a_leaf-clause-joins : goal.returns-then-fit_in_a_leaf-clause-joins
-returns-then-fit_in_a_leaf-clause-joins g c = omega (arith, c.in_ok-single.ensures.one)
+pub united-requires-clause-room : goal.united-requires-clause-room
+united-requires-clause-room g c = omega (arith, c.in_ok-single.ensures.one)
 
 pub returns-clause-not_less : goal.returns-clause-not_less
 returns-clause-not_less g c = omega arith

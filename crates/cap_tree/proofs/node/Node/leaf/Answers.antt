@@ -9,6 +9,7 @@ invariant_of-node g c = record {
   composed = tt;
   balanced = refl;
   fits = search rules;
+  exceeds_leaf = search rules;
   lower = grind (arith, common_steps);
   wide = grind (arith, common_steps);
   few = grind (arith, common_steps);
