@@ -6,14 +6,18 @@
 The traces are those of TRACES in traces.py at 1,000,000 lines, most of them made to be hard: all of them, or those that are
 named. `execs` and `turns` run in profile 2. The session loads the trace and is asked for the findings of its last line; when its
 script ends it has to know whether the trace has any. Of both runs the user seconds and the peak memory, by `/usr/bin/time`,
-which it needs.
+which it needs. Then, in a session that has loaded the trace, the milliseconds by the clock until a whole report is read, the
+median of five.
 """
 
+import io
 import os
 import shutil
+import statistics
 import subprocess
 import sys
 import tempfile
+import time
 
 import traces
 from timing import IN_PROFILE_2
@@ -27,6 +31,26 @@ def measured(command):
         sys.exit(f"{' '.join(command)} ended with status {run.returncode}")
     seconds, kibibytes = run.stderr.split()[-2:]
     return float(seconds), int(kibibytes) * 1024 / 1e6
+
+
+def replied(session, replies, command):
+    """The milliseconds until the last line of a report is read."""
+    begun = time.perf_counter()
+    session.stdin.write(f"{command}\n".encode())
+    while not (line := replies.readline()).startswith(b"findings"):
+        if not line:
+            sys.exit(f"a session ended at {command}")
+    return (time.perf_counter() - begun) * 1000
+
+
+def reported(command):
+    """The milliseconds of a whole report in a session."""
+    with subprocess.Popen(command, stdin=subprocess.PIPE, stdout=subprocess.PIPE, bufsize=0) as session:
+        replies = io.BufferedReader(session.stdout, 1 << 20)
+        replied(session, replies, "report 1 1")
+        taken = statistics.median(replied(session, replies, "report") for _ in range(5))
+        session.stdin.close()
+    return taken
 
 
 def main():
@@ -44,10 +68,11 @@ def main():
             with open(script, "w") as out:
                 out.write(f"report {count} {count}\n")
             profile = ["--profile", "2"] if name in IN_PROFILE_2 else []
-            check, session = measured([program, "check", *profile, path]), measured([program, "edit", *profile, path, script])
+            edit = [program, "edit", *profile, path]
+            check, session = measured([program, "check", *profile, path]), measured([*edit, script])
             print(
                 f"{name}, {count:,} lines, {os.path.getsize(path) / 1e6:.0f} MB: check {check[0]:.2f} s, {check[1]:.0f} MB; "
-                f"session {session[0]:.2f} s, {session[1]:.0f} MB",
+                f"session {session[0]:.2f} s, {session[1]:.0f} MB; report {reported(edit):.2f} ms",
                 flush=True,
             )
 

@@ -70,6 +70,17 @@ def wide(lines):
     return out[:lines]
 
 
+def descriptors(lines):
+    """One process with a hundred thousand descriptors, each limited and then used."""
+    rng = random.Random(5)
+    out = ["100 @start(0)"]
+    out += [f"100 dup2(0,{fd}) RET {fd}" for fd in range(1, 100_000)]
+    out += [f"100 cap_rights_limit({fd},CAP_READ|CAP_WRITE) RET 0" for fd in range(100_000)]
+    while len(out) < lines:
+        out.append(f"100 read({rng.randrange(100_000)}) RET 1")
+    return out[:lines]
+
+
 def forms(lines):
     """Sixteen processes and calls of every shape: on descriptors, by path, at a directory, forks and exits.
 
@@ -453,7 +464,7 @@ def held(count, call, times):
 TRACES = {
     make.__name__: make
     for make in (
-        quiet, loud, used, wide, forms, mixed, crowd, hostile, pairs, spread, closes, socketpairs, chain, long_chain, narrowing, long_narrowing,
+        quiet, loud, used, wide, descriptors, forms, mixed, crowd, hostile, pairs, spread, closes, socketpairs, chain, long_chain, narrowing, long_narrowing,
         limits, heirs, lineage, families, strangers, starts, packed, execs, turns,
     )
 }

@@ -1,14 +1,15 @@
 -- What is known is kept where few processes and descriptors are named, unless many calls were refused.
 use Rattle.std.specs.Prelude.{All, Bool, List, None, Some, [], cond, eqb, ℕ, ◌*◌, ◌++◌, ◌+◌, ◌<◌, ◌∷◌, ◌≡◌, ◌≤◌, ◌⊎◌}
 use Rattle.cap_summary.specs.{Preconditions.IsSettled, declared.known.Known.Known, declared.node.Content.Content, false}
-use Rattle.cap_summary.specs.{Asks.refused, Kept.KeepsParts, Keys.AllRise, Keys.CellsRise, Keys.rows_size}
+use Rattle.cap_summary.specs.{Asks.refused, Composing.NodeView, Kept.KeepsParts, Kept.StandsFor, Keys.AllRise}
+use Rattle.cap_summary.specs.{Keys.CellsRise, Keys.rows_size}
 use Rattle.cap_summary.specs.{Sorted.KeysRise, Sorted.Rises, Sorted.RisesFrom, Step, declared.effect.Row.Row, min, refl}
 use Rattle.cap_summary.specs.{IfNone, IfSome, Knows.Knows, Option, Sorted.found, is_some, length, nat_le, true}
-use Rattle.cap_summary.specs.Kept.{IsKept, IsLarge, IsWithin, ListsMany, NameOrRefuseMany, is_one, room, these}
+use Rattle.cap_summary.specs.Kept.{HaveManyRows, IsKept, IsLarge, IsWithin, NameOrRefuseMany, is_one, room, these}
 use Rattle.cap_summary.specs.declared.node.Content.TheVariants.{Both, Run}
 use Rattle.cap_summary.specs.Names.{AreAmong, IsListedWithin, IsRowWithin, ListWithin, Names, names_in}
 use Rattle.cap_summary.proofs.{Knowing.refused_parts, SortedFound.found_below, SortedFound.rises_again, inl, nat_tests}
-use Rattle.cap_summary.proofs.{All-head, All-tail, FewAsks.few_asks, FewAsks.few_keys, arith, eq-eqb, eqb-true, inr}
+use Rattle.cap_summary.proofs.{All-head, All-tail, FewAsks.few_asks, FewAsks.few_keys, arith, cases_lt, eq-eqb, eqb-true, inr}
 use Rattle.cap_summary.proofs.Naming.{asks_among, effect_among, first_among, second_among}
 use Rattle.std.proofs.Math.Nat.{mul-le-mul_right}
 
@@ -66,10 +67,17 @@ module _ (pids fds : List ℕ) where
 
 -- ---- what isn't kept
 
+-- each row counts
+pub few_processes : (rows : List (ℕ × Row)) → length rows ≤ rows_size rows
+few_processes [] = omega arith
+few_processes ((p, row) ∷ rows) = let more = few_processes rows in omega (arith, more)
+
 -- more than is kept, with few refusals, is more than 1,024 cells and modes give
-many_cells : (n rows asks refusals refused room : ℕ) → (min 8192 (1024 + n) < rows) ⊎ (40000 < rows + (asks + refusals))
+many_cells : (n rows count asks refusals refused room : ℕ)
+    → (min 131072 (1024 + n) < rows) ⊎ (8192 < count) ⊎ (262144 < rows + (asks + refusals)) → count ≤ rows
     → rows ≤ room → asks ≤ 8 * room → refusals ≤ refused → refused ≤ 30000 → 1024 < room
-many_cells n rows asks refusals refused room large few_rows few_asks some few = grind (arith, large, few_rows, few_asks, some, few)
+many_cells n rows count asks refusals refused room large each few_rows few_asks some few =
+    grind (arith, large, each, few_rows, few_asks, some, few)
 
 -- what is known of the steps is above the limit
 many_whole : (t : List Step) (known : Known) → Knows known t → IsSettled known.precondition.value
@@ -85,8 +93,9 @@ many_whole t known knows settled is = by (nat_le (refused t) 30000) refl
         (effect_among (names_in t) named among known.effect.value knows.effect_named) in
         let asks = few_asks pids fds known.precondition.value.asks.items settled.rises
         (asks_among (names_in t) named among known.precondition.value knows.asks_named).asks in
-        many_cells (length t) (rows_size known.effect.value.rows) (length known.precondition.value.asks.items)
-        (length known.precondition.value.refusals.items) (refused t) (room pids fds) is.large rows asks knows.refusals few)
+        many_cells (length t) (rows_size known.effect.value.rows) (length known.effect.value.rows)
+        (length known.precondition.value.asks.items) (length known.precondition.value.refusals.items) (refused t)
+        (room pids fds) is.large (few_processes known.effect.value.rows) rows asks knows.refusals few)
     by false e = inr (grind (arith, nat_tests, e))
 
 -- what a node keeps of what is known, and why where it keeps nothing
@@ -113,12 +122,19 @@ node_names known (Some kept) t knows settled many is = tt
 node_names None None t knows settled many is = many
 node_names (Some known) None t knows settled many is = many_whole t known knows settled is
 
--- more than 1,024 rows and cells are listed
-many_listed : (t : List Step) (known : Known) → Knows known t → ListsMany known → NameOrRefuseMany t
-many_listed t known knows lists = inl (λ pids fds among.
-    let rows = few_rows pids fds known.effect.value.rows lists.rising
+-- a node with these steps that keeps so much
+pub stands_for : (n : NodeView) (kept : Option Known) (t : List Step) → n.steps ≡ t → n.known ≡ kept
+    → IfSome kept (λ known. IsKept known t) → IfNone kept (NameOrRefuseMany t) → StandsFor n t
+stands_for n None t steps known is many = record { steps = steps; known = rw known tt; many = rw known many }
+stands_for n (Some k) t steps known is many = record { steps = steps; known = rw known is.knows; many = rw known tt }
+
+-- more than 1,024 rows are there
+many_listed : (t : List Step) (known : Known) → Knows known t → AllRise known.effect.value.rows
+    → 1024 < length known.effect.value.rows → NameOrRefuseMany t
+many_listed t known knows rising many = inl (λ pids fds among.
+    let rows = few_rows pids fds known.effect.value.rows rising
     (effect_among (names_in t) (these pids fds) among known.effect.value knows.effect_named) in
-    omega (arith, rows, lists.many))
+    omega (arith, rows, few_processes known.effect.value.rows, many))
 
 -- more names and refusals are many too
 many_more : (t v : List Step) → AreAmong (names_in t) (names_in v) → refused t ≤ refused v → NameOrRefuseMany t
@@ -137,9 +153,12 @@ pub many_second : (t u : List Step) → NameOrRefuseMany u → NameOrRefuseMany 
 many_second t u = many_more u (t ++ u) (second_among t u) (omega (arith, refused_parts t u))
 
 pub many_both : (t u : List Step) (first second : Known) → Knows first t → Knows second u
-    → ListsMany first ⊎ ListsMany second → NameOrRefuseMany (t ++ u)
-many_both t u first second one other (inl lists) = many_first t u (many_listed t first one lists)
-many_both t u first second one other (inr lists) = many_second t u (many_listed u second other lists)
+    → HaveManyRows first second → NameOrRefuseMany (t ++ u)
+many_both t u first second one other have =
+    elim (cases_lt 1024 (length first.effect.value.rows)) [
+      | inl many ↦ many_first t u (many_listed t first one have.rising many)
+      | inr few ↦ many_second t u (many_listed u second other have.rising_too (omega (arith, have.many, few)))
+    ]
 
 -- why nothing is kept of two parts
 pub ruleset many = (many_first, many_second, many_both)

@@ -5,20 +5,23 @@ use Rattle.cap_summary.specs.{Bool, IfNone, Keys.AllRise, Knows.Knows, Names.Nam
 use Rattle.cap_summary.specs.declared.{known.Known.Known, node.Content.Content}
 use Rattle.cap_summary.specs.Preconditions.{IsSettled, size}
 
--- what is known of so many steps is within the limits: that of rows and cells, and that of all with asks and refusals
+-- what is known of so many steps is within the limits: that of rows and cells, of rows, and of all with asks and refusals
 pub record IsWithin (known : Known) (n : ℕ) : Type 0 where
-  pub cells : rows_size known.effect.value.rows ≤ min 8192 (1024 + n)
-  pub all : size known ≤ 40000
+  pub cells : rows_size known.effect.value.rows ≤ min 131072 (1024 + n)
+  pub processes : length known.effect.value.rows ≤ 8192
+  pub all : size known ≤ 262144
 
 -- it isn't
 pub record IsLarge (known : Known) (n : ℕ) : Type 0 where
   pub rising : AllRise known.effect.value.rows
-  pub large : (min 8192 (1024 + n) < rows_size known.effect.value.rows) ⊎ (40000 < size known)
+  pub large : (min 131072 (1024 + n) < rows_size known.effect.value.rows)
+      ⊎ (8192 < length known.effect.value.rows) ⊎ (262144 < size known)
 
--- it has more than 1,024 rows and cells
-pub record ListsMany (known : Known) : Type 0 where
-  pub rising : AllRise known.effect.value.rows
-  pub many : 1024 < rows_size known.effect.value.rows
+-- two segments have more than 8,192 rows together
+pub record HaveManyRows (first second : Known) : Type 0 where
+  pub rising : AllRise first.effect.value.rows
+  pub rising_too : AllRise second.effect.value.rows
+  pub many : 8192 < length first.effect.value.rows + length second.effect.value.rows
 
 -- what is kept of steps
 pub record IsKept (known : Known) (steps : List Step) : Type 0 where
@@ -61,6 +64,13 @@ AreKept a b = (is_some a.known ≡ true) × (is_some b.known ≡ true)
 abbrev pub KeepsParts : Option Known → Content → Type 0
 KeepsParts kept (Content.Run run) = Unit {0}
 KeepsParts kept (Content.Both a b) = IfSome kept (λ known. AreKept a.value b.value)
+
+-- A node stands for a list of steps: it has just these; what it keeps says of them the state after, and whether something
+-- is found, from every state before; and it keeps that wherever they name little and few calls were refused.
+pub record StandsFor (n : NodeView) (t : List Step) : Type 0 where
+  pub steps : n.steps ≡ t
+  pub known : IfSome n.known (λ known. Knows known t)
+  pub many : IfNone n.known (NameOrRefuseMany t)
 
 -- what always holds of a node; where nothing is kept of it, it names or refuses many
 pub record IsGood (size : ℕ) (kept : Option Known) (content : Content) : Type 0 where

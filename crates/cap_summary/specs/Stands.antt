@@ -1,7 +1,7 @@
 -- What a summary stands for.
 use Rattle.std.specs.Prelude.{length, max, ◌≡◌, ◌≤◌}
 use Rattle.std.proofs.Common.{arith, length-append}
-use Rattle.cap_summary.specs.{Kept.HasParts, Kept.content_steps, List, Option, Step, declared.known.Known.Known}
+use Rattle.cap_summary.specs.{Kept.HasParts, Kept.StandsFor, Kept.content_steps, List, Option, Step, declared.known.Known.Known}
 use Rattle.cap_summary.specs.declared.{node.Content.Content, node.Node.TheDeep.deep-Content, summary.Summary.Summary}
 
 -- the steps that a summary sums up, from the first
@@ -12,9 +12,10 @@ summed_up z = z.node.value.steps
 abbrev pub kept_of : Summary → Option Known
 kept_of z = z.node.value.known
 
--- a summary stands for a list of steps where it sums up just these
-pub record Stands (z : Summary) (t : List Step) : Type 0 where
-  pub steps : summed_up z ≡ t
+-- a summary stands for a list of steps as its node does: it has just these, says what they do and where something is
+-- found in them, and says so wherever they name little
+abbrev pub Stands : Summary → List Step → Type 0
+Stands z = StandsFor z.node.value
 
 -- each part is shorter than its node
 pub deep_le_length : (c : Content) → HasParts c → max (deep-Content c) 0 ≤ length (content_steps c)

@@ -3,12 +3,13 @@
 ghost use Rattle.std.specs.Prelude.{◌≡◌, ◌+◌, ◌*◌, ◌^◌, ◌<◌, ◌≤◌, ◌++◌, ◌⊎◌, length, IfOk, OnOk, IfSome};
 ghost use Rattle.cap_summary.specs.{Composing.AreAlike, Composing.IfKept, Composing.NodeView, Composing.NodesCompose};
 ghost use Rattle.cap_summary.specs.{Effects.state_before, Kept.AreKept, Kept.HasParts, Kept.IsKept, Kept.IsLarge};
-ghost use Rattle.cap_summary.specs.{Kept.IsWithin, Kept.KeepsParts, Kept.ListsMany, Kept.NameOrRefuseMany};
+ghost use Rattle.cap_summary.specs.{Kept.IsWithin, Kept.HaveManyRows, Kept.KeepsParts, Kept.NameOrRefuseMany};
+ghost use Rattle.cap_summary.specs.{Kept.StandsFor};
 ghost use Rattle.cap_summary.specs.{Kept.content_steps, Knows.Knows, Positions.AgreeAfter, Positions.AllOrMany};
 ghost use Rattle.cap_summary.specs.{Positions.AreJudged, Positions.AreNoted, Positions.WereJudged, Positions.found_in};
 ghost use Rattle.cap_summary.specs.{Positions.last_of, Preconditions.IsSettled, State, check, part_at, start_state};
 ghost use Rattle.cap_summary.specs.{values};
-ghost use Rattle.std.specs.Prelude.{IfNone, Some, is_some, option_copied, true, ℕ};
+ghost use Rattle.std.specs.Prelude.{IfNone, Some, false, is_some, option_copied, true, ℕ};
 
 use crate::judging::{Asked, judge_in_order, judge_run};
 use crate::last_steps::LastSteps;
@@ -62,30 +63,44 @@ const ASKS_A_POSITION: usize = 16;
 const CELLS_OF_ANY: usize = 1_024;
 
 /// The most rows and cells that are kept.
-const MOST_CELLS: usize = 8_192;
+const MOST_CELLS: usize = 131_072;
+
+/// The most processes of which a row is kept: to take rows over costs more than to copy cells.
+const MOST_PROCESSES: usize = 8_192;
 
 /// The most rows, cells, asks and refusals that are kept.
-const MOST_KEPT: usize = 40_000;
+const MOST_KEPT: usize = 262_144;
 
-/// What is known of so many steps, where it is within the limit.
+/// Whether what is known of so many steps is within the limits.
+fn is_within(known: &Known, steps: usize) -> bool
+    requires { steps ≤ 2 ^ 30 }
+    ensures within { result ≡ true → IsWithin known.now steps }
+    ensures large { result ≡ false → IsLarge known.now steps }
+{
+    let cells = (CELLS_OF_ANY + steps).min(MOST_CELLS);
+    let effect = &*known.effect;
+    effect.size() <= cells && effect.processes() <= MOST_PROCESSES && known.fits(MOST_KEPT)
+}
+
+/// What is known of so many steps, where it is within the limits.
 fn kept(known: Option<Known>, steps: usize) -> Option<Known>
     requires { steps ≤ 2 ^ 30 }
     ensures within { IfSome result (λ kept. (known ≡ Some kept) × IsWithin kept steps) }
     ensures large { IfNone result (IfSome known (λ known. IsLarge known steps)) }
 {
     let known = known?;
-    if known.effect.size() <= (CELLS_OF_ANY + steps).min(MOST_CELLS) && known.fits(MOST_KEPT) {
+    if is_within(&known, steps) {
         return Some(known);
     }
     None
 }
 
-/// Whether two segments list so much that it isn't tried to keep what is known of both. Then one of them lists more than
-/// 1,024 rows and cells.
+/// Whether two segments have rows of so many processes that it isn't tried to keep what is known of both.
 fn are_large(first: &Known, second: &Known) -> bool
-    ensures { result ≡ true → ListsMany first.now ⊎ ListsMany second.now }
+    ensures { result ≡ true → HaveManyRows first.now second.now }
 {
-    first.effect.size().saturating_add(second.effect.size()) > MOST_CELLS
+    let _cells = (first.effect.size(), second.effect.size());
+    first.effect.processes().saturating_add(second.effect.processes()) > MOST_PROCESSES
 }
 
 impl Content {
@@ -133,7 +148,7 @@ impl Node {
         requires knows { IfSome known (λ known. Knows known (content_steps content)) }
         requires settled { IfSome known (λ known. IsSettled known.precondition.value) }
         requires many { IfNone known (NameOrRefuseMany (content_steps content)) }
-        ensures steps { IfOk result (λ n. n.value.steps ≡ content_steps content) }
+        ensures stands { IfOk result (λ n. StandsFor n.value (content_steps content)) }
         ensures known { IfOk result (λ n. IfSome n.value.known (λ kept. known ≡ Some kept)) }
     {
         let len = content.len();
@@ -149,7 +164,7 @@ impl Node {
     /// The run of these steps, which it shares.
     pub(crate) fn of_run(alloc: Global, steps: &[Rc<Step>]) -> Result<Rc<Node>, NoMemory>
         requires { length steps.now ≤ 48 }
-        ensures { IfOk result (λ n. n.value.steps ≡ values steps.now) }
+        ensures { IfOk result (λ n. StandsFor n.value (values steps.now)) }
     {
         let mut run: Vec<Rc<Step>> = Vec::with_capacity(alloc, steps.len())?;
         run.extend_from_slice(steps)?;
@@ -166,7 +181,7 @@ impl Node {
         requires some { 0 < length steps.now }
         requires few { length steps.now ≤ 2 ^ 30 }
         requires room { meter.old + length steps.now < 2 ^ 64 }
-        ensures steps { IfOk result (λ n. n.value.steps ≡ values steps.now) }
+        ensures stands { IfOk result (λ n. StandsFor n.value (values steps.now)) }
         ensures counted { OnOk result (meter.new + 1 ≡ meter.old + length steps.now) }
         ensures not_less { meter.old ≤ meter.new }
         ensures at_most { meter.new < meter.old + length steps.now }
@@ -184,6 +199,15 @@ impl Node {
         Ok(node)
     }
 
+    /// The node again, which is shared.
+    fn shared(node: &Rc<Node>) -> Result<Rc<Node>, NoMemory>
+        ensures same { IfOk result (λ n. n.value ≡ node.now.value) }
+        ensures stands { IfOk result (λ n. StandsFor n.value node.now.value.steps) }
+    {
+        let _known = node.known();
+        Ok(node.clone()?)
+    }
+
     /// The steps of the one and then those of the other.
     #[tactic(auto, using(crate::proofs::Runs::none_before, crate::proofs::Runs::none_beyond))]
     pub(crate) fn join(
@@ -192,14 +216,14 @@ impl Node {
         right: &Rc<Node>,
     ) -> Result<Rc<Node>, NoMemory>
         requires { length left.now.value.steps + length right.now.value.steps ≤ 2 ^ 30 }
-        ensures steps { IfOk result (λ n. n.value.steps ≡ left.now.value.steps ++ right.now.value.steps) }
+        ensures stands { IfOk result (λ n. StandsFor n.value (left.now.value.steps ++ right.now.value.steps)) }
         ensures composed { IfOk result (λ n. NodesCompose left.now.value right.now.value n.value) }
     {
         if left.len() == 0 {
-            return Ok(right.clone()?);
+            return Node::shared(right);
         }
         if right.len() == 0 {
-            return Ok(left.clone()?);
+            return Node::shared(left);
         }
         let Some((first, second)) = Node::known_of_both(left, right) else {
             return Node::of_parts(alloc, None, left, right);
@@ -224,8 +248,8 @@ impl Node {
         requires old { NodesCompose (part_at side was.now left.now.value) (part_at side right.now.value was.now)
             old.now }
         requires like { IfKept (AreAlike similarity) was.now (part_at side left.now.value right.now.value) }
-        ensures steps { IfOk result
-            (λ new. new.0.value.steps ≡ left.now.value.steps ++ right.now.value.steps) }
+        ensures stands { IfOk result
+            (λ new. StandsFor new.0.value (left.now.value.steps ++ right.now.value.steps)) }
         ensures composed { IfOk result (λ new. NodesCompose left.now.value right.now.value new.0.value) }
         ensures alike { IfOk result (λ new. IfKept (AreAlike new.1) old.now new.0.value) }
     {
@@ -242,7 +266,7 @@ impl Node {
         }
     }
 
-    /// What is known of two parts, where it may be kept of both together.
+    /// What is known of two parts, where it is kept of both and may be kept of both together.
     #[tactic(auto, using(crate::proofs::Keeping::many))]
     fn known_of_both<'a>(left: &'a Node, right: &'a Node) -> Option<(&'a Known, &'a Known)>
         ensures first { IfSome result (λ both. IsKept both.0.now left.now.steps) }
@@ -271,7 +295,7 @@ impl Node {
         requires knows { IfSome known (λ known. Knows known (left.now.value.steps ++ right.now.value.steps)) }
         requires settled { IfSome known (λ known. IsSettled known.precondition.value) }
         requires many { IfNone known (NameOrRefuseMany (left.now.value.steps ++ right.now.value.steps)) }
-        ensures steps { IfOk result (λ n. n.value.steps ≡ left.now.value.steps ++ right.now.value.steps) }
+        ensures stands { IfOk result (λ n. StandsFor n.value (left.now.value.steps ++ right.now.value.steps)) }
         ensures known { IfOk result (λ n. IfSome n.value.known (λ kept. known ≡ Some kept)) }
     {
         let content = Content::Both(left.clone()?, right.clone()?);

@@ -1,6 +1,6 @@
 //! What a row and an effect say of a cell, whether a row reads another process, and how much they list.
 
-ghost use Rattle.std.specs.Prelude.{◌≡◌, ℕ, true, false, IfOk, option_copied};
+ghost use Rattle.std.specs.Prelude.{◌≡◌, ℕ, true, false, length, IfOk, option_copied};
 ghost use Rattle.cap_summary.specs.Effects.{own_row, row_cell, listed_value, row_leaves, leaves};
 ghost use Rattle.cap_summary.specs.{Names.{Names, RowWithin, only, has_cell}, Keys.Cells, Keys.IsSizeOf};
 ghost use Rattle.cap_summary.specs.{Keys.reads_within, declared.key.Key.Key, Sorted.{found, Rises}};
@@ -159,6 +159,13 @@ impl Effect {
     {
         let sized = self.size() == other.size();
         sized && self.rows == other.rows
+    }
+
+    /// How many processes have a row.
+    pub fn processes(&self) -> usize
+        ensures { result ≡ length self.now.rows }
+    {
+        self.rows.entries().len()
     }
 
     /// How many rows there are, and cells that they list, as far as they can be counted.

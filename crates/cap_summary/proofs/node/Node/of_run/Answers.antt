@@ -10,4 +10,4 @@ pub of-requires-clause-knows : goal.of-requires-clause-knows
 of-requires-clause-knows c = rw (same (goal.at.of-requires-clause-knows c).In_ok-extend_from_slice) c.in_ok-known.ensures.says
 
 pub returns : goal.returns
-returns c = rw (same (goal.at.returns c).In_ok-extend_from_slice) at c.of.ensures.steps
+returns c = rw (same (goal.at.returns c).In_ok-extend_from_slice) at c.of.ensures.stands
