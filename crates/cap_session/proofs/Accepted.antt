@@ -77,22 +77,22 @@ remove-insert [] (suc i) x within = absurd (omega arith)
 remove-insert (y ∷ ys) zero x within = refl
 remove-insert (y ∷ ys) (suc i) x within = ap (λ zs. y ∷ zs) (remove-insert ys i x (omega arith))
 
-at_position : (b : Bool) (r : Result (List Entry) Refused) (next : List Entry)
+pub at_position : (b : Bool) (r : Result (List Entry) Refused) (next : List Entry)
     → (if b then r else Err Position) ≡ Ok next → (b ≡ true) × (r ≡ Ok next)
 at_position true r next is = (refl, is)
 at_position false r next is = absurd (cc)
 
-with_room : (b : Bool) (r : Result (List Entry) Refused) (next : List Entry) → (if b then Err Full else r) ≡ Ok next
+pub with_room : (b : Bool) (r : Result (List Entry) Refused) (next : List Entry) → (if b then Err Full else r) ≡ Ok next
     → r ≡ Ok next
 with_room true r next is = absurd (cc)
 with_room false r next is = is
 
-of_line : (r : Result Entry FirstFault) (f : Entry → List Entry) (next : List Entry) → with_read r f ≡ Ok next
+pub of_line : (r : Result Entry FirstFault) (f : Entry → List Entry) (next : List Entry) → with_read r f ≡ Ok next
     → (line : Entry) × (r ≡ Ok line) × (next ≡ f line)
 of_line (Ok line) f next is = (line, refl, cc)
 of_line (Err fault) f next is = absurd (cc)
 
-in_range : (k n : ℕ) → is_position k n ≡ true → (1 ≤ k) × (k ≤ n)
+pub in_range : (k n : ℕ) → is_position k n ≡ true → (1 ≤ k) × (k ≤ n)
 in_range k n is = (grind arith, grind arith)
 
 is_in_range : (k n : ℕ) → 1 ≤ k → k ≤ n → is_position k n ≡ true

@@ -45,6 +45,7 @@ pub mod MakersEnough
 pub mod MakerLimitsLaws
 pub mod LimitAccepted
 pub mod ClosedSets
+pub mod JoinsCounted
 pub mod FineLines
 pub mod ClosedNeeds
 pub mod FineTouches

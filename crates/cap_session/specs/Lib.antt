@@ -6,6 +6,7 @@ pub mod EditStreams
 pub mod Edits
 pub mod ExplainStreams
 pub mod Explaining
+pub mod Joins
 pub mod Laws
 pub mod LimitScriptLaws
 pub mod LimitScripts

@@ -13,11 +13,11 @@ ghost use Rattle.cap_machine.specs.declared.cell.Profile.TheVariants.{One};
 ghost use Rattle.cap_session.specs.Edits.{inserted, deleted, replaced, loaded, edited, after, answers};
 ghost use Rattle.cap_session.specs.Explaining.{explained_line, IsClean};
 ghost use Rattle.cap_session.specs.LimitStreams.{IsLimitsText, IsOutside};
+ghost use Rattle.cap_session.specs.Joins.{JoinsAfter};
 ghost use Rattle.cap_session.specs.Limits.{most_lines};
 ghost use Rattle.cap_session.specs.Replies.{shown, is_range, ranged};
 ghost use Rattle.cap_session.specs.Session.{SessionState, RefusesExactly, ran_out, lines_of, lines_at, IsIn, IsKept};
-ghost use Rattle.cap_summary.specs.Stands.{Stands, summed_up};
-ghost use Rattle.cap_summary.specs.declared.summary.Summary.{Summary};
+ghost use Rattle.cap_summary.specs.Kept.{NameOrRefuseMany};
 ghost use Rattle.cap_tree.specs.Bits.{bits};
 ghost use Rattle.cap_tree.specs.Run.{values};
 
@@ -287,14 +287,13 @@ impl Session {
     ///
     /// A tree doesn't change: the next edit puts another in its place.
     pub fn tree(&self) -> &Tree<Summary>
-        ensures list { result.now ≡ steps self.now.profile self.now.trace }
-        // A summary that stands for the list, as the tree's own does, sums up the trace.
-        ensures summary { (z : Summary) → Stands z result.now → summed_up z ≡ steps self.now.profile self.now.trace }
+        ensures { result.now ≡ steps self.now.profile self.now.trace }
     {
         &self.tree
     }
 
-    /// How many summaries the last accepted edit or load made by joining two others; 0 where there was none.
+    /// How many joins of two summaries the last accepted edit or load counted; 0 where there was none. A run of up to 48
+    /// lines is summed up in one go, and counts one join fewer than it has lines.
     ///
     /// After an edit it is at most `12 * bits n + 12`, where n is the count before it, with an inserted line, and
     /// `bits n` the number of its binary digits. After a load of n lines it is at most `2 * n`. A refused edit or load
@@ -354,9 +353,10 @@ impl Session {
     }
 
     /// Whether the report of the trace has no finding. It fails only when memory runs out, and takes none where
-    /// something is known of the whole trace.
+    /// something is known of the whole trace: that is, unless the trace names or refuses much.
     pub(crate) fn is_clean(&self) -> Result<bool, cap_tree::NoMemory>
-        ensures { IfOk result (λ clean. IsTrue clean ↔ (check usual (steps self.now.profile self.now.trace) ≡ [])) }
+        ensures clean { IfOk result (λ clean. IsTrue clean ↔ (check usual (steps self.now.profile self.now.trace) ≡ [])) }
+        ensures few { OnErr result (NameOrRefuseMany (steps self.now.profile self.now.trace)) }
     {
         let start = Start::unknown(self.alloc);
         let clean = self.is_clean_from(&start);
@@ -366,8 +366,9 @@ impl Session {
 
     /// Whether the report under this start has no finding.
     fn is_clean_from(&self, start: &Start) -> Result<bool, cap_tree::NoMemory>
-        ensures { IfOk result (λ clean. IsTrue clean
+        ensures clean { IfOk result (λ clean. IsTrue clean
             ↔ (check (start_state start.now) (steps self.now.profile self.now.trace) ≡ [])) }
+        ensures few { OnErr result (NameOrRefuseMany (steps self.now.profile self.now.trace)) }
     {
         let summary = self.tree.summary();
         if let Some(known) = summary.known() {
@@ -466,6 +467,7 @@ impl Session {
             (λ answered. self.new.trace ≡ after self.old.limit self.old.trace edits.now (ran_out answered.items)) }
         ensures answers { IfOk result
             (λ answered. answered.items ≡ answers self.old.limit self.old.trace edits.now (ran_out answered.items)) }
+        ensures joins { IfOk result (λ answered. JoinsAfter self.old self.new answered.items) }
         ensures unchanged { OnErr result (self.new ≡ self.old) }
         ensures limit { self.new.limit ≡ self.old.limit }
         ensures profile { self.new.profile ≡ self.old.profile }
@@ -492,6 +494,7 @@ impl Session {
             (λ r. self.new.trace ≡ after self.old.limit self.old.trace edits.now (ran_out r.answers.items)) }
         ensures answers { IfOk result
             (λ r. r.answers.items ≡ answers self.old.limit self.old.trace edits.now (ran_out r.answers.items)) }
+        ensures joins { IfOk result (λ r. JoinsAfter self.old self.new r.answers.items) }
         ensures unchanged { OnErr result (self.new ≡ self.old) }
         ensures limit { self.new.limit ≡ self.old.limit }
         ensures profile { self.new.profile ≡ self.old.profile }
