@@ -7,6 +7,7 @@ use Rattle.cap_session.specs.Devices.{SourceState, SinkState}
 use Rattle.cap_session.specs.declared.outcome.Outcome.TheVariants.{ReadFault}
 use Rattle.cap_session.specs.declared.outcome.ExplainOutcome.TheVariants.{Ended}
 use Rattle.capcheck.specs.Runs.{NeverFail, TaskIsNoFault, TaskStreams, turns}
+use Rattle.capcheck.specs.Texts.{Opens}
 use Rattle.capcheck.specs.declared.plan.Task.{Task}
 use Rattle.capcheck.specs.declared.plan.Task.TheVariants.{Ask, Edit, Explain, Limits}
 
@@ -27,7 +28,7 @@ module _ {R : Type 0} (state : R → SourceState) (never : NeverFail state) wher
   performed profile Edit z0 z1 r0 r1 w0 w1 (inl s) = none r0 r1 s.stopped.read_fault
   performed profile Edit z0 z1 r0 r1 w0 w1 (inr s) = none z0 z1 s.done.read_fault
 
-  pub task_is_no_fault : TaskIsNoFault state
-  task_is_no_fault profile task beside trace w0 w1 (inl u) = u.why
-  task_is_no_fault profile task beside trace w0 w1 (inr b) =
-      absurd (performed profile task b.z0 b.z1 b.r0 b.r1 w0 w1 b.reads)
+  pub task_is_no_fault : {T : Type 0} (opens : Opens T R) → TaskIsNoFault state opens
+  task_is_no_fault opens known run t0 t1 w0 w1 (inl u) = u.why
+  task_is_no_fault opens known run t0 t1 w0 w1 (inr b) =
+      absurd (performed run.profile run.task b.z0 b.z1 b.r0 b.r1 w0 w1 b.reads)

@@ -1,6 +1,7 @@
 -- What a run reads and writes, and the status that it ends with. `Finishes` is the contract of `answer`, which is the
 -- whole program but for its arguments and its devices.
-use Rattle.std.specs.Prelude.{◌≡◌, ◌⊎◌, ℕ, List, [], Option, Some, None}
+use Rattle.std.specs.Prelude.{◌≡◌, ◌⊎◌, ℕ, List, [], ◌∷◌, ◌++◌, Option, Some, None}
+use Rattle.std.specs.Prelude.{option_map, option_to_list}
 use Rattle.clap.specs.Words.{Text}
 use Rattle.cap_machine.specs.declared.cell.Profile.{Profile}
 use Rattle.cap_session.specs.Devices.{SourceState, SinkState}
@@ -13,7 +14,7 @@ use Rattle.cap_session.specs.Outcome.{explain_status_of}
 use Rattle.cap_session.specs.declared.outcome.Outcome.TheVariants.{ReadFault}
 use Rattle.cap_session.specs.declared.outcome.ExplainOutcome.{ExplainOutcome}
 use Rattle.cap_session.specs.declared.outcome.ExplainOutcome.TheVariants.{Ended, OutOfRange}
-use Rattle.capcheck.specs.Texts.{Known, Gives, MayFail, holds}
+use Rattle.capcheck.specs.Texts.{Known, Gives, MayFail, Opens, holds}
 use Rattle.capcheck.specs.Plans.{Fits, NamedRun, run_of}
 use Rattle.capcheck.specs.declared.plan.Plan.{Plan}
 use Rattle.capcheck.specs.declared.plan.Plan.TheVariants.{Run, Help, Usage, Memory}
@@ -37,8 +38,36 @@ TaskStreams profile (Limits at) z0 z1 r0 r1 w0 w1 outcome =
 TaskStreams profile Edit z0 z1 r0 r1 w0 w1 (Ended outcome) = EditStreams profile turns r0 r1 z0 z1 w0 w1 outcome
 TaskStreams profile Edit z0 z1 r0 r1 w0 w1 OutOfRange = ⊥
 
+-- The trace and what is beside it, in the order in which they are opened: a script after the trace, and a start before it.
+abbrev pub in_order : {A : Type 0} → Task → List A → A → List A
+in_order Edit beside trace = trace ∷ beside
+in_order _ beside trace = beside ++ (trace ∷ [])
+
+-- the names of a run's texts, in that order
+abbrev pub names_of : NamedRun → List (Option Text)
+names_of run = in_order run.task (option_to_list run.beside) run.trace
+
+-- their readers: z is that of the text beside the trace, where one is named, and r that of the trace
+abbrev pub readers_of : {R : Type 0} → NamedRun → R → R → List R
+readers_of run z r = in_order run.task (option_to_list (option_map (λ name. z) run.beside)) r
+
+-- The texts of these names were opened, one after the other and each once, and these readers came of it.
+abbrev pub OpensAll : {T R : Type 0} → Opens T R → T → List (Option Text) → List R → T → Type 0
+OpensAll opens t0 [] [] t1 = t1 ≡ t0
+OpensAll {T = T} opens t0 (name ∷ names) (reader ∷ readers) t2 =
+    (t1 : T) × opens t0 name (Some reader) t1 × OpensAll opens t1 names readers t2
+OpensAll opens t0 [] (reader ∷ readers) t1 = ⊥
+OpensAll opens t0 (name ∷ names) [] t1 = ⊥
+
+-- One of these can't be opened. Those before it were, each once, and none after it.
+abbrev pub OpensUntil : {T R : Type 0} → Opens T R → T → List (Option Text) → T → Type 0
+OpensUntil opens t0 [] t1 = ⊥
+OpensUntil {T = T} {R = R} opens t0 (name ∷ names) t2 = opens t0 name None t2
+    ⊎ ((reader : R) × (t1 : T) × opens t0 name (Some reader) t1 × OpensUntil opens t1 names t2)
+
 -- a text can't be opened, and nothing was written
-pub record Unopened (may_fail : Type 0) (w0 w1 : SinkState) (outcome : ExplainOutcome) : Type 0 where
+pub record Unopened (opens_until may_fail : Type 0) (w0 w1 : SinkState) (outcome : ExplainOutcome) : Type 0 where
+  pub until : opens_until
   pub why : may_fail
   pub silent : w1 ≡ w0
   pub fault : outcome ≡ Ended ReadFault
@@ -46,49 +75,48 @@ pub record Unopened (may_fail : Type 0) (w0 w1 : SinkState) (outcome : ExplainOu
 -- Two texts with these known bytes were opened, the one beside the trace as z and the trace as r. Then they were read
 -- so: each from its state at first to its state at the end. Both are readers of the texts' own type R, which has
 -- this state.
-pub record OpensBoth {R : Type 0} (state : R → SourceState) (beside trace : Known)
+pub record OpensBoth {R : Type 0} (state : R → SourceState) (opens_all : R → R → Type 0) (beside trace : Known)
     (P : SourceState → SourceState → SourceState → SourceState → Type 0) : Type 0 where
   pub z0 : R
   pub z1 : R
   pub r0 : R
   pub r1 : R
+  pub opened : opens_all z0 r0
   pub beside_text : Gives beside (state z0).bytes
   pub trace_text : Gives trace (state r0).bytes
   pub reads : P (state z0) (state z1) (state r0) (state r1)
-
--- a task was done on texts with these known bytes
-abbrev pub Performs : {R : Type 0} → (R → SourceState) → Profile → Task → Known → Known → SinkState → SinkState
-    → ExplainOutcome → Type 0
-Performs state profile task beside trace w0 w1 outcome = Unopened (MayFail beside ⊎ MayFail trace) w0 w1 outcome
-    ⊎ OpensBoth state beside trace (λ z0 z1 r0 r1. TaskStreams profile task z0 z1 r0 r1 w0 w1 outcome)
 
 -- What is known of the text beside the trace. Where none is named it is an empty text, which is the usual start.
 abbrev pub known_beside : (Option Text → Known) → Option (Option Text) → Known
 known_beside known None = holds []
 known_beside known (Some name) = known name
 
--- a run was carried out, where readers have this state, and this is known of the texts of names
-abbrev pub RunsText : {R : Type 0} → (R → SourceState) → (Option Text → Known) → NamedRun → SinkState → SinkState
-    → ExplainOutcome → Type 0
-RunsText state known run w0 w1 outcome =
-    Performs state run.profile run.task (known_beside known run.beside) (known run.trace) w0 w1 outcome
+-- A run was carried out. Readers have this state, names are opened so, and this is known of the texts of names.
+abbrev pub RunsText : {T R : Type 0} → (R → SourceState) → Opens T R → (Option Text → Known) → NamedRun → T → T
+    → SinkState → SinkState → ExplainOutcome → Type 0
+RunsText state opens known run t0 t1 w0 w1 outcome =
+    Unopened (OpensUntil opens t0 (names_of run) t1)
+    (MayFail (known_beside known run.beside) ⊎ MayFail (known run.trace)) w0 w1 outcome
+    ⊎ OpensBoth state (λ z r. OpensAll opens t0 (names_of run) (readers_of run z r) t1)
+    (known_beside known run.beside) (known run.trace)
+    (λ z0 z1 r0 r1. TaskStreams run.profile run.task z0 z1 r0 r1 w0 w1 outcome)
 
--- a plan was carried out, and the status is that of its outcome
-abbrev pub CarriesOut : {R : Type 0} → (R → SourceState) → (Option Text → Known) → SinkState → SinkState → Plan → ℕ
-    → Type 0
-CarriesOut state known w0 w1 (Run run) status = (outcome : ExplainOutcome)
-    × RunsText state known (run_of run) w0 w1 outcome × (status ≡ explain_status_of outcome)
+-- A plan was carried out, and the status is that of its outcome. Without a run no text is opened.
+abbrev pub CarriesOut : {T R : Type 0} → (R → SourceState) → Opens T R → (Option Text → Known) → T → T → SinkState
+    → SinkState → Plan → ℕ → Type 0
+CarriesOut state opens known t0 t1 w0 w1 (Run run) status = (outcome : ExplainOutcome)
+    × RunsText state opens known (run_of run) t0 t1 w0 w1 outcome × (status ≡ explain_status_of outcome)
 -- 3 where it can't be printed
-CarriesOut state known w0 w1 (Help text) status = (w1 ≡ w0) × ((status ≡ 0) ⊎ (status ≡ 3))
-CarriesOut state known w0 w1 (Usage text) status = (w1 ≡ w0) × (status ≡ 2)
-CarriesOut state known w0 w1 Memory status = (w1 ≡ w0) × (status ≡ 3)
+CarriesOut state opens known t0 t1 w0 w1 (Help text) status = (t1 ≡ t0) × (w1 ≡ w0) × ((status ≡ 0) ⊎ (status ≡ 3))
+CarriesOut state opens known t0 t1 w0 w1 (Usage text) status = (t1 ≡ t0) × (w1 ≡ w0) × (status ≡ 2)
+CarriesOut state opens known t0 t1 w0 w1 Memory status = (t1 ≡ t0) × (w1 ≡ w0) × (status ≡ 3)
 
 -- The words ask for a plan, and it was carried out.
-pub record Finishes {R : Type 0} (state : R → SourceState) (words : List Text) (known : Option Text → Known)
-    (w0 w1 : SinkState) (status : ℕ) : Type 0 where
+pub record Finishes {T R : Type 0} (state : R → SourceState) (opens : Opens T R) (known : Option Text → Known)
+    (words : List Text) (t0 t1 : T) (w0 w1 : SinkState) (status : ℕ) : Type 0 where
   pub plan : Plan
   pub fits : Fits words plan
-  pub done : CarriesOut state known w0 w1 plan status
+  pub done : CarriesOut state opens known t0 t1 w0 w1 plan status
 
 -- ---- of readers that never fail
 
@@ -97,6 +125,7 @@ abbrev pub NeverFail : {R : Type 0} → (R → SourceState) → Type 0
 NeverFail {R = R} state = (r : R) → (state r).failures ≡ 0
 
 -- A read fault comes only where one of the two texts may be one that can't be opened.
-abbrev pub TaskIsNoFault : {R : Type 0} → (R → SourceState) → Type 0
-TaskIsNoFault state = (profile : Profile) (task : Task) (beside trace : Known) (w0 w1 : SinkState)
-    → Performs state profile task beside trace w0 w1 (Ended ReadFault) → MayFail beside ⊎ MayFail trace
+abbrev pub TaskIsNoFault : {T R : Type 0} → (R → SourceState) → Opens T R → Type 0
+TaskIsNoFault {T = T} state opens = (known : Option Text → Known) (run : NamedRun) (t0 t1 : T) (w0 w1 : SinkState)
+    → RunsText state opens known run t0 t1 w0 w1 (Ended ReadFault)
+    → MayFail (known_beside known run.beside) ⊎ MayFail (known run.trace)

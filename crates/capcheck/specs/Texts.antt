@@ -21,6 +21,11 @@ MayFail unknown = Unit {0}
 MayFail missing = Unit {0}
 MayFail (holds text) = ⊥
 
+-- What opening the text of a name comes to: from what opens it, to a reader or to none, and to what opens the next.
+-- Without a name the text is standard input.
+abbrev pub Opens : Type 0 → Type 0 → Type 1
+Opens T R = T → Option (List ℕ) → Option R → T → Type 0
+
 module _ {F S : Type 0} where
   abbrev pub is_file : Opened F S → Bool
   is_file (File file) = true

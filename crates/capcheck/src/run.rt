@@ -3,14 +3,15 @@
 //!
 //! [`run`] takes words and devices from the runtime. [`answer`] is all the rest, over any texts and any output.
 
-ghost use Rattle.std.specs.Prelude.{◌≡◌, ◌≤◌, ◌^◌, ◌⊎◌, [], IfErr, IfOk, Ok, map};
+ghost use Rattle.std.specs.Prelude.{◌≡◌, ◌≤◌, ◌^◌, ◌⊎◌, [], IfErr, IfOk, Ok, map, option_to_list};
 ghost use Rattle.std.specs.Option.{option_map};
 ghost use Rattle.cap_machine.specs.State.{usual};
 ghost use Rattle.cap_session.specs.Outcome.{explain_status_of};
 ghost use Rattle.cap_session.specs.StartTexts.{start as start_said};
 ghost use Rattle.capcheck.specs.Faults.{fault_code};
 ghost use Rattle.capcheck.specs.Plans.{run_of, seen};
-ghost use Rattle.capcheck.specs.Runs.{CarriesOut, Finishes, NeverFail, RunsText, TaskIsNoFault, TaskStreams, known_beside};
+ghost use Rattle.capcheck.specs.Runs.{CarriesOut, Finishes, NeverFail, OpensAll, OpensUntil};
+ghost use Rattle.capcheck.specs.Runs.{RunsText, TaskIsNoFault, TaskStreams, known_beside, names_of, readers_of};
 ghost use Rattle.capcheck.specs.Texts.{Gives, MayFail};
 
 use crate::messages::{Output, begin, tell};
@@ -69,8 +70,8 @@ fn run_args<R: Env + Files + Input + Print + Eprint + AllocGlobal>(
     let args: Vec<String> = env::args(rt)?.skip(1).collect(rt.alloc())?;
     let words: Vec<&str> = args.iter().map(|word| word.as_str()).collect(rt.alloc())?;
     let mut output = Counted::new(Output::new(rt, notes));
-    let texts = SystemTexts::new(rt, notes);
-    Ok(answer(rt, &texts, notes, &mut output, words.as_slice()))
+    let mut texts = SystemTexts::new(rt, notes);
+    Ok(answer(rt, &mut texts, notes, &mut output, words.as_slice()))
 }
 
 /// Does what the words ask for over any texts and any output, and answers the exit status.
@@ -79,14 +80,14 @@ fn run_args<R: Env + Files + Input + Print + Eprint + AllocGlobal>(
 /// the replies and the status are those of these bytes. What is said in words is made of the notes.
 pub fn answer<T: Texts, W: Sink, R: Print + Eprint + AllocGlobal>(
     rt: &R,
-    texts: &T,
+    texts: &mut T,
     notes: &Notes,
     output: &mut W,
     words: &[&str],
 ) -> u8
     requires { 1 ≤ (W.state output.old).room }
-    ensures { Finishes T.Reader.state (map (λ w. w.now) words.entry.now) (T.known texts.now)
-        (W.state output.old) (W.state output.new) result }
+    ensures { Finishes T.Reader.state T.opens (T.known texts.old) (map (λ w. w.now) words.entry.now)
+        texts.old texts.new (W.state output.old) (W.state output.new) result }
 {
     carry_out(rt, texts, notes, output, plan_of(rt.alloc(), words))
 }
@@ -94,14 +95,14 @@ pub fn answer<T: Texts, W: Sink, R: Print + Eprint + AllocGlobal>(
 /// Does what a plan says, and answers the exit status.
 fn carry_out<T: Texts, W: Sink, R: Print + Eprint + AllocGlobal>(
     rt: &R,
-    texts: &T,
+    texts: &mut T,
     notes: &Notes,
     output: &mut W,
     plan: Plan<'_>,
 ) -> u8
     requires { 1 ≤ (W.state output.old).room }
-    ensures { CarriesOut T.Reader.state (T.known texts.now) (W.state output.old) (W.state output.new)
-        plan.entry result }
+    ensures { CarriesOut T.Reader.state T.opens (T.known texts.old) texts.old texts.new
+        (W.state output.old) (W.state output.new) plan.entry result }
 {
     match plan {
         Plan::Run(run) => {
@@ -129,16 +130,21 @@ pub fn empty_start_is_usual()
 
 /// Where a reader's type never counts a failure, as that of texts in memory, no run ends with a read fault, unless one of
 /// its texts may be one that can't be opened.
-pub fn no_fault_of_readers_that_never_fail<R: Source>()
-    ensures { NeverFail R.state → TaskIsNoFault R.state }
+pub fn no_fault_of_readers_that_never_fail<T: Texts>()
+    ensures { NeverFail T.Reader.state → TaskIsNoFault T.Reader.state T.opens }
 {}
 
 /// Opens the text beside the trace. Where none is named that is a text without any bytes, which is the usual start.
-fn open_beside<T: Texts>(texts: &T, beside: Option<Option<&str>>) -> Result<T::Reader, Failed>
+fn open_beside<T: Texts>(texts: &mut T, beside: Option<Option<&str>>) -> Result<T::Reader, Failed>
+    ensures opened { IfOk result (λ z. let names = option_map seen beside.entry in OpensAll T.opens texts.old
+        (option_to_list names) (option_to_list (option_map (λ name. z) names)) texts.new) }
+    ensures until { IfErr result (λ _. OpensUntil T.opens texts.old (option_to_list (option_map seen beside.entry))
+        texts.new) }
     ensures text { IfOk result
-        (λ z. Gives (known_beside (T.known texts.now) (option_map seen beside.entry)) (T.Reader.state z).bytes) }
+        (λ z. Gives (known_beside (T.known texts.old) (option_map seen beside.entry)) (T.Reader.state z).bytes) }
     ensures room { IfOk result (λ z. 2 ^ 32 ≤ (T.Reader.state z).room) }
-    ensures fails { IfErr result (λ _. MayFail (known_beside (T.known texts.now) (option_map seen beside.entry))) }
+    ensures fails { IfErr result (λ _. MayFail (known_beside (T.known texts.old) (option_map seen beside.entry))) }
+    ensures same { T.known texts.new ≡ T.known texts.old }
 {
     match beside {
         Some(name) => texts.open(name),
@@ -146,15 +152,18 @@ fn open_beside<T: Texts>(texts: &T, beside: Option<Option<&str>>) -> Result<T::R
     }
 }
 
-/// Opens the text beside the trace, and the trace: the start before the trace, and a script after it.
-fn open_both<T: Texts>(texts: &T, run: &Run<'_>) -> Result<(T::Reader, T::Reader), Failed>
+/// Opens the text beside the trace, and the trace, each once: the start before the trace, and a script after it.
+fn open_both<T: Texts>(texts: &mut T, run: &Run<'_>) -> Result<(T::Reader, T::Reader), Failed>
+    ensures opened { IfOk result (λ r. OpensAll T.opens texts.old (names_of (run_of run.now))
+        (readers_of (run_of run.now) r.0 r.1) texts.new) }
+    ensures until { IfErr result (λ _. OpensUntil T.opens texts.old (names_of (run_of run.now)) texts.new) }
     ensures beside { IfOk result (λ r. Gives
-        (known_beside (T.known texts.now) (option_map seen run.now.beside)) (T.Reader.state r.0).bytes) }
-    ensures trace { IfOk result (λ r. Gives (T.known texts.now (seen run.now.trace)) (T.Reader.state r.1).bytes) }
+        (known_beside (T.known texts.old) (option_map seen run.now.beside)) (T.Reader.state r.0).bytes) }
+    ensures trace { IfOk result (λ r. Gives (T.known texts.old (seen run.now.trace)) (T.Reader.state r.1).bytes) }
     ensures beside_room { IfOk result (λ r. 2 ^ 32 ≤ (T.Reader.state r.0).room) }
     ensures trace_room { IfOk result (λ r. 2 ^ 32 ≤ (T.Reader.state r.1).room) }
-    ensures fails { IfErr result (λ _. MayFail (known_beside (T.known texts.now) (option_map seen run.now.beside))
-        ⊎ MayFail (T.known texts.now (seen run.now.trace))) }
+    ensures fails { IfErr result (λ _. MayFail (known_beside (T.known texts.old) (option_map seen run.now.beside))
+        ⊎ MayFail (T.known texts.old (seen run.now.trace))) }
 {
     if let Task::Edit = run.task {
         let trace = texts.open(run.trace)?;
@@ -170,12 +179,12 @@ fn open_both<T: Texts>(texts: &T, run: &Run<'_>) -> Result<(T::Reader, T::Reader
 /// written by one where the system takes it whole.
 pub fn perform<T: Texts, W: Sink>(
     alloc: Global,
-    texts: &T,
+    texts: &mut T,
     output: &mut W,
     run: &Run<'_>,
 ) -> ExplainOutcome
     requires { 1 ≤ (W.state output.old).room }
-    ensures { RunsText T.Reader.state (T.known texts.now) (run_of run.now)
+    ensures { RunsText T.Reader.state T.opens (T.known texts.old) (run_of run.now) texts.old texts.new
         (W.state output.old) (W.state output.new) result }
 {
     match open_both(texts, run) {

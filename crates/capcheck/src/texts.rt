@@ -2,8 +2,9 @@
 //! standard input.
 //!
 //! Contracts say of a text what is known of its bytes: of a file nothing, and over texts in memory all.
-ghost use Rattle.std.specs.Prelude.{◌≡◌, ◌^◌, ◌≤◌, List, [], Some, ℕ, Option, IfErr, IfOk, is_some};
+ghost use Rattle.std.specs.Prelude.{◌≡◌, ◌^◌, ◌≤◌, List, [], Some, ℕ, Option, IfErr, IfOk, is_some, ⊤};
 ghost use Rattle.std.specs.Option.{option_map};
+ghost use Rattle.std.specs.Result.{result_ok};
 ghost use Rattle.capcheck.specs.Texts.{Gives, Known, MayFail, is_file, remaining_of, unknown};
 
 use crate::notes::{Noted, Notes};
@@ -21,12 +22,18 @@ pub trait Texts {
     /// What is known of the text of a name, and without one of standard input.
     ghost known: { Self → Option (List ℕ) → Known };
 
+    /// What opening the text of a name comes to: from these texts, to a reader or to none, and to these texts. Only a call of
+    /// `open` shows it, so it says which names were opened, and how often.
+    ghost opens: { Self → Option (List ℕ) → Option Self.Reader → Self → Type 0 };
+
     /// Opens the text of this name, or standard input where there is none.
-    fn open(&self, name: Option<&str>) -> Result<Self::Reader, Failed>
+    fn open(&mut self, name: Option<&str>) -> Result<Self::Reader, Failed>
+        ensures opened { opens self.old (option_map (λ n. n.now) name.entry) (result_ok result) self.new }
         ensures text { IfOk result
-            (λ r. Gives (known self.now (option_map (λ n. n.now) name.entry)) (Self.Reader.state r).bytes) }
+            (λ r. Gives (known self.old (option_map (λ n. n.now) name.entry)) (Self.Reader.state r).bytes) }
         ensures room { IfOk result (λ r. 2 ^ 32 ≤ (Self.Reader.state r).room) }
-        ensures fails { IfErr result (λ _. MayFail (known self.now (option_map (λ n. n.now) name.entry))) };
+        ensures fails { IfErr result (λ _. MayFail (known self.old (option_map (λ n. n.now) name.entry))) }
+        ensures same { known self.new ≡ known self.old };
 
     /// A text without any bytes.
     fn empty(&self) -> Self::Reader
@@ -52,8 +59,10 @@ impl<'a, R: Files + Input> Texts for SystemTexts<'a, R> {
 
     ghost known = { λ _ _. unknown };
 
+    ghost opens = { λ _ _ _ _. ⊤ };
+
     fn open(
-        &self,
+        &mut self,
         name: Option<&str>,
     ) -> Result<Counted<Noted<'a, Opened<R::File, R::Reader>>>, Failed> {
         let number = self.notes.open();
