@@ -2670,6 +2670,37 @@ limits("no line is after those where processes begin", BEGINS, "refused E7\n", 1
 limits("where a process begins, and a later line that can't be read", BEGINS + "1 read(x) RET 1\n", "refused E4 line 10\n", 1)
 limits("where a process begins, and a start that can't be read", BEGINS, "refused E4 start line 1\n", 1, start="1 in\n")
 
+# ---- names of files: each text is that of its name, and a mistyped name is no empty text
+
+for name, text in (
+    ("asked", "1 read(7) RET 1\n1 write(7) RET -1 errno 93\n1 read(8) RET 1\n"),
+    ("known", "1 out closed 7=CAP_READ\n"),
+    ("work", "count\nreport\n"),
+    ("trace", "x\n"),
+    ("start", "x\n"),
+    ("script", "undo\n"),
+):
+    save(name, text)
+UNKNOWN = "# descriptor 7 isn't known; later calls need CAP_READ\n# descriptor 8 isn't known; later calls need CAP_READ\n"
+for words, status, report in (
+    ("check asked", 0, "findings 0\n"),
+    ("check asked -s known", 1, "3 1 read closed 8\nfindings 1\n"),
+    ("denials asked", 1, "2 1 write unexplained\ndenials 1\n"),
+    ("denials asked -s known", 1, "2 1 write lacks 7 CAP_WRITE\ndenials 1\n"),
+    ("edit asked work", 0, "3\nfindings 0\n"),
+    ("explain asked 2", 0, "2 1 write(7) RET -1 errno 93\nunexplained\n7 start unknown\n"),
+    ("explain asked 2 -s known", 0, "2 1 write(7) RET -1 errno 93\nlacks 7 CAP_WRITE\n7 start CAP_READ\n"),
+    ("limits asked 1", 0, f"# process 1 before line 1\n{UNKNOWN}insert 1 1 cap_enter() RET 0\n"),
+    ("limits asked 1 -s known", 0, "# process 1 before line 1\ninsert 1 1 cap_rights_limit(7,CAP_READ) RET 0\ninsert 2 1 cap_enter() RET 0\n"),
+):
+    count += 1
+    compare(words, "the files that are named", run(words.split()), (status, report, ""))
+    for file in ("asked", "known", "work"):
+        if file in words:
+            count += 1
+            mistyped = words.replace(file, file[:-1])
+            compare(mistyped, "a mistyped name is no empty text", run(mistyped.split()), (3, "", "capcheck: E11\n"))
+
 # ---- the words of denials
 
 save("t", "1 @start(3)\n1 open(\"a\",O_RDWR) RET 4\n1 execve(\"/bin/x\") RET 0\n1 write(4) RET 1\n2 read(7) RET 1\n2 write(7) RET -1 errno 93\n")

@@ -2,8 +2,9 @@
 //! against capability mode, and prints the report on standard output.
 //!
 //! `words` is the command line as `clap` is given it, `help` what it says of it to people, `plan` what the
-//! words ask for, `texts` where a text is read from, and `run` does what the plan says. `messages` says in words why
-//! there is no report, from the notes that `notes` takes of what is read, and `wrong` what is wrong with a line.
+//! words ask for, `system` what is asked of the system, `texts` where a text is read from, and `run` does what the plan
+//! says. `messages` says in words why there is no report, from the notes that `notes` takes of what is read, and `wrong`
+//! what is wrong with a line.
 #![tactic(auto)]
 
 mod help;
@@ -13,6 +14,7 @@ mod plan;
 #[cfg(test)]
 mod plan_tests;
 mod run;
+mod system;
 mod texts;
 mod words;
 mod wrong;

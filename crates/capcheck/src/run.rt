@@ -17,6 +17,7 @@ ghost use Rattle.capcheck.specs.Texts.{Gives, MayFail};
 use crate::messages::{Output, begin, tell};
 use crate::notes::Notes;
 use crate::plan::{Plan, Run, Task, plan_of};
+use crate::system::Host;
 use crate::texts::{SystemTexts, Texts};
 use cap_machine::Question;
 use cap_session::ExplainOutcome::{self, Ended};
@@ -70,7 +71,7 @@ fn run_args<R: Env + Files + Input + Print + Eprint + AllocGlobal>(
     let args: Vec<String> = env::args(rt)?.skip(1).collect(rt.alloc())?;
     let words: Vec<&str> = args.iter().map(|word| word.as_str()).collect(rt.alloc())?;
     let mut output = Counted::new(Output::new(rt, notes));
-    let mut texts = SystemTexts::new(rt, notes);
+    let mut texts = SystemTexts::new(Host::new(rt), notes);
     Ok(answer(rt, &mut texts, notes, &mut output, words.as_slice()))
 }
 

@@ -2,17 +2,16 @@
 //! standard input.
 //!
 //! Contracts say of a text what is known of its bytes: of a file nothing, and over texts in memory all.
-ghost use Rattle.std.specs.Prelude.{◌≡◌, ◌^◌, ◌≤◌, List, [], Some, ℕ, Option, IfErr, IfOk, is_some, ⊤};
+ghost use Rattle.std.specs.Prelude.{◌≡◌, ◌^◌, ◌≤◌, List, [], Some, ℕ, Option, IfErr, IfOk, is_some};
 ghost use Rattle.std.specs.Option.{option_map};
 ghost use Rattle.std.specs.Result.{result_ok};
-ghost use Rattle.capcheck.specs.Texts.{Gives, Known, MayFail, is_file, remaining_of, unknown};
+ghost use Rattle.capcheck.specs.Texts.{Gives, Known, MayFail, OpensFrom, is_file, remaining_of, unknown};
 
 use crate::notes::{Noted, Notes};
+use crate::system::System;
 use cap_session::{Counted, Failed, Source};
-use std::fs::File;
 use std::io;
 use std::io::Read;
-use std::rt::Files;
 
 /// Opens texts by their names.
 pub trait Texts {
@@ -41,32 +40,35 @@ pub trait Texts {
         ensures room { 2 ^ 32 ≤ (Self.Reader.state result).room };
 }
 
-/// The files of the system and standard input, with notes of what is read. Of their bytes nothing is known.
+/// The files of a system and standard input, with notes of what is read. Of their bytes nothing is known.
 #[derive(Drop)]
-pub struct SystemTexts<'a, R> {
-    rt: &'a R,
+pub struct SystemTexts<'a, S: Drop> {
+    system: S,
     notes: &'a Notes,
 }
 
-impl<'a, R> SystemTexts<'a, R> {
-    pub fn new(rt: &'a R, notes: &'a Notes) -> SystemTexts<'a, R> {
-        SystemTexts { rt, notes }
+impl<'a, S: System + Drop> SystemTexts<'a, S> {
+    pub fn new(system: S, notes: &'a Notes) -> SystemTexts<'a, S>
+        ensures { result.system ≡ system }
+    {
+        SystemTexts { system, notes }
     }
 }
 
-impl<'a, R: Files + Input> Texts for SystemTexts<'a, R> {
-    type Reader = Counted<Noted<'a, Opened<R::File, R::Reader>>>;
+impl<'a, S: System + Drop> Texts for SystemTexts<'a, S> {
+    type Reader = Counted<Noted<'a, Opened<S::File, S::Input>>>;
 
     ghost known = { λ _ _. unknown };
 
-    ghost opens = { λ _ _ _ _. ⊤ };
+    ghost opens = { λ s name r t.
+        OpensFrom S.opens S.gives s.system name (option_map (λ text. text.device.device) r) t.system };
 
     fn open(
         &mut self,
         name: Option<&str>,
-    ) -> Result<Counted<Noted<'a, Opened<R::File, R::Reader>>>, Failed> {
+    ) -> Result<Counted<Noted<'a, Opened<S::File, S::Input>>>, Failed> {
         let number = self.notes.open();
-        match open(self.rt, name) {
+        match open(&mut self.system, name) {
             Ok(opened) => Ok(Counted::new(Noted::new(opened, number, self.notes))),
             Err(error) => {
                 self.notes.error.set(Some(error));
@@ -75,7 +77,7 @@ impl<'a, R: Files + Input> Texts for SystemTexts<'a, R> {
         }
     }
 
-    fn empty(&self) -> Counted<Noted<'a, Opened<R::File, R::Reader>>> {
+    fn empty(&self) -> Counted<Noted<'a, Opened<S::File, S::Input>>> {
         Counted::new(Noted::new(Opened::Empty, self.notes.open(), self.notes))
     }
 }
@@ -91,12 +93,14 @@ pub enum Opened<F: Drop, S: Drop> {
 }
 
 /// Opens the file of this name, or standard input where there is none.
-fn open<R: Files + Input>(rt: &R, name: Option<&str>) -> io::Result<Opened<R::File, R::Reader>>
-    ensures { IfOk result (λ opened. is_file opened ≡ is_some name.entry) }
+fn open<S: System>(system: &mut S, name: Option<&str>) -> io::Result<Opened<S::File, S::Input>>
+    ensures opened { OpensFrom S.opens S.gives system.old (option_map (λ n. n.now) name.entry)
+        (result_ok result) system.new }
+    ensures file { IfOk result (λ opened. is_file opened ≡ is_some name.entry) }
 {
     match name {
-        Some(name) => Ok(Opened::File(File::open(rt, name)?)),
-        None => Ok(Opened::Standard(rt.reader())),
+        Some(name) => Ok(Opened::File(system.open(name)?)),
+        None => Ok(Opened::Standard(system.input())),
     }
 }
 
