@@ -1,7 +1,7 @@
 -- What a run reads and writes, and the status that it ends with. `Finishes` is the contract of `answer`, which is the
 -- whole program but for its arguments and its devices.
 use Rattle.std.specs.Prelude.{◌≡◌, ◌⊎◌, ℕ, List, [], ◌∷◌, ◌++◌, Option, Some, None}
-use Rattle.std.specs.Prelude.{option_map, option_to_list}
+use Rattle.std.specs.Prelude.{option_map, option_to_list, string_bytes}
 use Rattle.clap.specs.Words.{Text}
 use Rattle.cap_machine.specs.declared.cell.Profile.{Profile}
 use Rattle.cap_session.specs.Devices.{SourceState, SinkState}
@@ -14,6 +14,7 @@ use Rattle.cap_session.specs.Outcome.{explain_status_of}
 use Rattle.cap_session.specs.declared.outcome.Outcome.TheVariants.{ReadFault}
 use Rattle.cap_session.specs.declared.outcome.ExplainOutcome.{ExplainOutcome}
 use Rattle.cap_session.specs.declared.outcome.ExplainOutcome.TheVariants.{Ended, OutOfRange}
+use Rattle.cap_session.specs.Writes.{Wrote, WrotePrefix}
 use Rattle.capcheck.specs.Texts.{Known, Gives, MayFail, Opens, holds}
 use Rattle.capcheck.specs.Plans.{Fits, NamedRun, run_of}
 use Rattle.capcheck.specs.declared.plan.Plan.{Plan}
@@ -101,13 +102,16 @@ RunsText state opens known run t0 t1 w0 w1 outcome =
     (known_beside known run.beside) (known run.trace)
     (λ z0 z1 r0 r1. TaskStreams run.profile run.task z0 z1 r0 r1 w0 w1 outcome)
 
+-- The whole text was written, and the status is 0; or a prefix of it was, since the writer failed, and the status is 3.
+abbrev pub Prints : List ℕ → SinkState → SinkState → ℕ → Type 0
+Prints text w0 w1 status = (Wrote w0 w1 text × (status ≡ 0)) ⊎ (WrotePrefix w0 w1 text × (status ≡ 3))
+
 -- A plan was carried out, and the status is that of its outcome. Without a run no text is opened.
 abbrev pub CarriesOut : {T R : Type 0} → (R → SourceState) → Opens T R → (Option Text → Known) → T → T → SinkState
     → SinkState → Plan → ℕ → Type 0
 CarriesOut state opens known t0 t1 w0 w1 (Run run) status = (outcome : ExplainOutcome)
     × RunsText state opens known (run_of run) t0 t1 w0 w1 outcome × (status ≡ explain_status_of outcome)
--- 3 where it can't be printed
-CarriesOut state opens known t0 t1 w0 w1 (Help text) status = (t1 ≡ t0) × (w1 ≡ w0) × ((status ≡ 0) ⊎ (status ≡ 3))
+CarriesOut state opens known t0 t1 w0 w1 (Help text) status = (t1 ≡ t0) × Prints (string_bytes text) w0 w1 status
 CarriesOut state opens known t0 t1 w0 w1 (Usage text) status = (t1 ≡ t0) × (w1 ≡ w0) × (status ≡ 2)
 CarriesOut state opens known t0 t1 w0 w1 Memory status = (t1 ≡ t0) × (w1 ≡ w0) × (status ≡ 3)
 

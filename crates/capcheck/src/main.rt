@@ -17,6 +17,7 @@ mod run;
 mod system;
 mod texts;
 mod words;
+mod write;
 mod wrong;
 
 use std::io::IsTerminal;

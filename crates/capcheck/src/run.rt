@@ -10,7 +10,7 @@ ghost use Rattle.cap_session.specs.Outcome.{explain_status_of};
 ghost use Rattle.cap_session.specs.StartTexts.{start as start_said};
 ghost use Rattle.capcheck.specs.Faults.{fault_code};
 ghost use Rattle.capcheck.specs.Plans.{run_of, seen};
-ghost use Rattle.capcheck.specs.Runs.{CarriesOut, Finishes, NeverFail, OpensAll, OpensUntil};
+ghost use Rattle.capcheck.specs.Runs.{CarriesOut, Finishes, NeverFail, OpensAll, OpensUntil, Prints};
 ghost use Rattle.capcheck.specs.Runs.{RunsText, TaskIsNoFault, TaskStreams, known_beside, names_of, readers_of};
 ghost use Rattle.capcheck.specs.Texts.{Gives, MayFail};
 
@@ -19,6 +19,7 @@ use crate::notes::Notes;
 use crate::plan::{Plan, Run, Task, plan_of};
 use crate::system::Host;
 use crate::texts::{SystemTexts, Texts};
+use crate::write::write_text;
 use cap_machine::Question;
 use cap_session::ExplainOutcome::{self, Ended};
 use cap_session::{
@@ -77,9 +78,9 @@ fn run_args<R: Env + Files + Input + Print + Eprint + AllocGlobal>(
 
 /// Does what the words ask for over any texts and any output, and answers the exit status.
 ///
-/// The output takes what a check or an edit writes. Where the bytes of the named texts are known, the report,
+/// The output takes what a run writes, and the text of help. Where the bytes of the named texts are known, the report,
 /// the replies and the status are those of these bytes. What is said in words is made of the notes.
-pub fn answer<T: Texts, W: Sink, R: Print + Eprint + AllocGlobal>(
+pub fn answer<T: Texts, W: Sink, R: Eprint + AllocGlobal>(
     rt: &R,
     texts: &mut T,
     notes: &Notes,
@@ -94,7 +95,7 @@ pub fn answer<T: Texts, W: Sink, R: Print + Eprint + AllocGlobal>(
 }
 
 /// Does what a plan says, and answers the exit status.
-fn carry_out<T: Texts, W: Sink, R: Print + Eprint + AllocGlobal>(
+fn carry_out<T: Texts, W: Sink, R: Eprint + AllocGlobal>(
     rt: &R,
     texts: &mut T,
     notes: &Notes,
@@ -111,15 +112,20 @@ fn carry_out<T: Texts, W: Sink, R: Print + Eprint + AllocGlobal>(
             let outcome = perform(rt.alloc(), texts, output, &run);
             exit_status(rt, notes, Some(&run), outcome)
         }
-        Plan::Help(text) => match rt.print(text) {
-            Ok(()) => 0,
-            Err(error) => {
-                notes.error.set(Some(error));
-                exit_status(rt, notes, None, Ended(Outcome::WriteFault))
-            }
-        },
+        Plan::Help(text) => print(rt, notes, output, text.as_str()),
         Plan::Usage(text) => usage_error(rt, text.as_str()),
         Plan::Memory => exit_status(rt, notes, None, Ended(Outcome::Memory)),
+    }
+}
+
+/// Writes a text that was asked for, and answers the exit status.
+fn print<W: Sink, R: Eprint + AllocGlobal>(rt: &R, notes: &Notes, output: &mut W, text: &str) -> u8
+    requires { 1 ≤ (W.state output.old).room }
+    ensures { Prints text.now (W.state output.old) (W.state output.new) result }
+{
+    match write_text(output, text.as_bytes()) {
+        Ok(()) => 0,
+        Err(Failed) => exit_status(rt, notes, None, Ended(Outcome::WriteFault)),
     }
 }
 
