@@ -1,5 +1,6 @@
 //! The words on standard error beside the codes: for each refusal and each failure a line that says where and what is
 //! wrong. No contract reads them, and whether they can be written doesn't matter.
+ghost use Rattle.std.specs.Prelude.{◌≡◌};
 
 use crate::notes::Notes;
 use crate::plan::{Run, Task};
@@ -146,22 +147,27 @@ fn tell_no_line<R: Eprint>(
     }
 }
 
-/// Standard output, with words on standard error for each command of a script that is refused.
+/// What a run writes, with words on standard error for each command of a script that is refused.
 #[derive(Drop)]
-pub struct Output<'a, R> {
+pub struct Output<'a, W, R> {
+    printer: W,
     rt: &'a R,
     notes: &'a Notes,
 }
 
-impl<'a, R> Output<'a, R> {
-    pub fn new(rt: &'a R, notes: &'a Notes) -> Output<'a, R> {
-        Output { rt, notes }
+impl<'a, W, R> Output<'a, W, R> {
+    pub fn new(printer: W, rt: &'a R, notes: &'a Notes) -> Output<'a, W, R>
+        ensures { result.printer ≡ printer }
+    {
+        Output { printer, rt, notes }
     }
 }
 
-impl<R: Print + Eprint + AllocGlobal> Write for Output<'_, R> {
+impl<W: Write, R: Eprint + AllocGlobal> Write for Output<'_, W, R> {
+    ghost contents = { λ s. W.contents s.printer };
+
     fn write(&mut self, buf: &[u8]) -> io::Result<usize> {
-        match self.rt.write_some(buf) {
+        match self.printer.write(buf) {
             Ok(n) => {
                 if n == buf.len() {
                     tell_reply(self.rt, self.notes, buf);
@@ -176,7 +182,7 @@ impl<R: Print + Eprint + AllocGlobal> Write for Output<'_, R> {
     }
 
     fn flush(&mut self) -> io::Result<()> {
-        Ok(())
+        self.printer.flush()
     }
 }
 

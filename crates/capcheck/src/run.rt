@@ -71,7 +71,7 @@ fn run_args<R: Env + Files + Input + Print + Eprint + AllocGlobal>(
 {
     let args: Vec<String> = env::args(rt)?.skip(1).collect(rt.alloc())?;
     let words: Vec<&str> = args.iter().map(|word| word.as_str()).collect(rt.alloc())?;
-    let mut output = Counted::new(Output::new(rt, notes));
+    let mut output = Counted::new(Output::new(io::writer(rt), rt, notes));
     let mut texts = SystemTexts::new(Host::new(rt), notes);
     Ok(answer(rt, &mut texts, notes, &mut output, words.as_slice()))
 }
