@@ -1,6 +1,6 @@
 -- What a run reads and writes, and the status that it ends with. `Finishes` is the contract of `answer`, which is the
 -- whole program but for its arguments and its devices.
-use Rattle.std.specs.Prelude.{◌≡◌, ◌⊎◌, ℕ, List, [], ◌∷◌, ◌++◌, Option, Some, None}
+use Rattle.std.specs.Prelude.{◌≡◌, ◌⊎◌, ℕ, List, [], ◌∷◌, ◌++◌, drop, Option, Some, None}
 use Rattle.std.specs.Prelude.{option_map, option_to_list, string_bytes}
 use Rattle.clap.specs.Words.{Text}
 use Rattle.cap_machine.specs.declared.cell.Profile.{Profile}
@@ -121,6 +121,14 @@ pub record Finishes {T R : Type 0} (state : R → SourceState) (opens : Opens T 
   pub plan : Plan
   pub fits : Fits words plan
   pub done : CarriesOut state opens known t0 t1 w0 w1 plan status
+
+-- How the program ends, where reading its arguments may come to these. The first is its name, and the others are words. Where
+-- it comes to none, one is no text or memory ran out, and nothing was opened or written.
+abbrev pub Ends : {T R : Type 0} → (Option (List Text) → Type 0) → (R → SourceState) → Opens T R → (Option Text → Known)
+    → T → T → SinkState → SinkState → ℕ → Type 0
+Ends may_be state opens known t0 t1 w0 w1 status =
+    ((args : List Text) × may_be (Some args) × Finishes state opens known (drop 1 args) t0 t1 w0 w1 status)
+    ⊎ (may_be None × (t1 ≡ t0) × (w1 ≡ w0) × ((status ≡ 2) ⊎ (status ≡ 3)))
 
 -- ---- of readers that never fail
 

@@ -20,9 +20,18 @@ mod words;
 mod write;
 mod wrong;
 
+use cap_session::Counted;
+use messages::Output;
+use notes::Notes;
+use std::io;
 use std::io::IsTerminal;
 use std::process::ExitCode;
+use system::Host;
+use texts::SystemTexts;
 
 fn main(rt: HostRuntime) -> ExitCode {
-    ExitCode::from(run::run(&rt, rt.stderr().is_terminal()))
+    let notes = Notes::new(rt.alloc(), rt.stderr().is_terminal());
+    let mut texts = SystemTexts::new(Host::new(&rt), &notes);
+    let mut output = Counted::new(Output::new(io::writer(&rt), &rt, &notes));
+    ExitCode::from(run::run(&rt, &Host::new(&rt), &mut texts, &notes, &mut output))
 }

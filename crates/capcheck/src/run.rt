@@ -1,34 +1,35 @@
 //! What the program does with its words: it opens the texts, does with the trace what is asked for, says on standard
 //! error why there is no answer, and ends with the exit status.
 //!
-//! [`run`] takes words and devices from the runtime. [`answer`] is all the rest, over any texts and any output.
+//! [`run`] is the program but for its devices, which `main` makes: it takes any arguments, texts and output. Nothing here can
+//! print on standard output by itself.
 
-ghost use Rattle.std.specs.Prelude.{◌≡◌, ◌≤◌, ◌^◌, ◌⊎◌, [], IfErr, IfOk, Ok, map, option_to_list};
+ghost use Rattle.std.specs.Prelude.{◌≡◌, ◌≤◌, ◌^◌, ◌⊎◌, [], IfErr, IfOk, Ok, drop, map};
+ghost use Rattle.std.specs.Prelude.{option_to_list, string_bytes};
 ghost use Rattle.std.specs.Option.{option_map};
 ghost use Rattle.cap_machine.specs.State.{usual};
 ghost use Rattle.cap_session.specs.Outcome.{explain_status_of};
 ghost use Rattle.cap_session.specs.StartTexts.{start as start_said};
 ghost use Rattle.capcheck.specs.Faults.{fault_code};
 ghost use Rattle.capcheck.specs.Plans.{run_of, seen};
-ghost use Rattle.capcheck.specs.Runs.{CarriesOut, Finishes, NeverFail, OpensAll, OpensUntil, Prints};
+ghost use Rattle.capcheck.specs.Runs.{CarriesOut, Ends, Finishes, NeverFail, OpensAll, OpensUntil, Prints};
 ghost use Rattle.capcheck.specs.Runs.{RunsText, TaskIsNoFault, TaskStreams, known_beside, names_of, readers_of};
 ghost use Rattle.capcheck.specs.Texts.{Gives, MayFail};
 
-use crate::messages::{Output, begin, tell};
+use crate::messages::{begin, tell};
 use crate::notes::Notes;
 use crate::plan::{Plan, Run, Task, plan_of};
-use crate::system::Host;
-use crate::texts::{SystemTexts, Texts};
+use crate::system::Arguments;
+use crate::texts::Texts;
 use crate::write::write_text;
 use cap_machine::Question;
 use cap_session::ExplainOutcome::{self, Ended};
 use cap_session::{
-    Counted, Failed, Outcome, Sink, Source, check_stream_from_as, denials_stream, edit_stream_as,
+    Failed, Outcome, Sink, Source, check_stream_from_as, denials_stream, edit_stream_as,
     explain_stream, limits_stream,
 };
-use std::alloc::Global;
-use std::rt::{Env, Files};
-use std::{env, io};
+use std::alloc::{AllocError, Global};
+use std::io;
 
 /// How often each text may be read.
 const TURNS: u64 = 2_147_483_648;
@@ -45,35 +46,66 @@ Usage: capcheck <COMMAND>
 For more information, try '--help'.
 ";
 
-/// Does what the words of the command line ask for, and answers the exit status: 0 with no finding and after
+/// Does what the arguments ask for over any texts and any output, and answers the exit status: 0 with no finding and after
 /// help, 1 with findings, 2 for a mistake in the words or a refused line, and 3 where memory ran out, a device
 /// failed or an input had no end. Standard error then has the reason, and where it is a terminal or the words ask for
 /// it, what is wrong in words.
-pub fn run<R: Env + Files + Input + Print + Eprint + AllocGlobal>(rt: &R, is_terminal: bool) -> u8
-    ensures { result ≤ 3 }
+pub fn run<A: Arguments, T: Texts, W: Sink, R: Eprint + AllocGlobal>(
+    rt: &R,
+    arguments: &A,
+    texts: &mut T,
+    notes: &Notes,
+    output: &mut W,
+) -> u8
+    requires { 1 ≤ (W.state output.old).room }
+    ensures most { result ≤ 3 }
+    ensures ends { Ends (A.may_be arguments.now) T.Reader.state T.opens (T.known texts.old) texts.old texts.new
+        (W.state output.old) (W.state output.new) result }
 {
-    let notes = Notes::new(rt.alloc(), is_terminal);
-    match run_args(rt, &notes) {
-        Ok(status) => status,
-        Err(error) if error.kind() == io::ErrorKind::OutOfMemory => {
-            exit_status(rt, &notes, None, Ended(Outcome::Memory))
-        }
-        Err(_) => usage_error(rt, NO_TEXT),
+    match arguments.read() {
+        Ok(args) => answer_arguments(rt, texts, notes, output, args.as_slice()),
+        Err(error) => no_arguments(rt, notes, &error),
     }
 }
 
-/// Does what the arguments of the process ask for, where they can be read.
-fn run_args<R: Env + Files + Input + Print + Eprint + AllocGlobal>(
-    rt: &R,
-    notes: &Notes,
-) -> io::Result<u8>
-    ensures { IfOk result (λ status. status ≤ 3) }
+/// Says why the arguments can't be read.
+fn no_arguments<R: Eprint + AllocGlobal>(rt: &R, notes: &Notes, error: &io::Error) -> u8
+    ensures { (result ≡ 2) ⊎ (result ≡ 3) }
 {
-    let args: Vec<String> = env::args(rt)?.skip(1).collect(rt.alloc())?;
-    let words: Vec<&str> = args.iter().map(|word| word.as_str()).collect(rt.alloc())?;
-    let mut output = Counted::new(Output::new(io::writer(rt), rt, notes));
-    let mut texts = SystemTexts::new(Host::new(rt), notes);
-    Ok(answer(rt, &mut texts, notes, &mut output, words.as_slice()))
+    if error.kind() == io::ErrorKind::OutOfMemory {
+        return exit_status(rt, notes, None, Ended(Outcome::Memory));
+    }
+    usage_error(rt, NO_TEXT)
+}
+
+/// Does what the arguments ask for, of which the first is the name of the program.
+fn answer_arguments<T: Texts, W: Sink, R: Eprint + AllocGlobal>(
+    rt: &R,
+    texts: &mut T,
+    notes: &Notes,
+    output: &mut W,
+    args: &[String],
+) -> u8
+    requires { 1 ≤ (W.state output.old).room }
+    ensures { Finishes T.Reader.state T.opens (T.known texts.old) (drop 1 (map string_bytes args.now))
+        texts.old texts.new (W.state output.old) (W.state output.new) result }
+{
+    match words_of(rt.alloc(), args) {
+        Ok(words) => answer(rt, texts, notes, output, words.as_slice()),
+        Err(AllocError) => exit_status(rt, notes, None, Ended(Outcome::Memory)),
+    }
+}
+
+/// What follows the name of the program.
+fn words_of(alloc: Global, args: &[String]) -> Result<Vec<&str>, AllocError>
+    ensures { IfOk result (λ words. map (λ w. w.now) words.items ≡ map string_bytes (drop 1 args.now)) }
+{
+    let after_name = args.get(1..).unwrap_or(&[]);
+    let mut words = Vec::new(alloc);
+    for word in after_name {
+        words.push(word.as_str())?;
+    }
+    Ok(words)
 }
 
 /// Does what the words ask for over any texts and any output, and answers the exit status.

@@ -1,14 +1,25 @@
-//! What the program asks of a system: what a [`System`] opens. [`Host`] is the one that it runs on.
+//! What the program asks of a system: its [`Arguments`], and what a [`System`] opens. [`Host`] is the one that it runs on.
 //!
-//! The kit's contracts of these calls say nothing of names. So what is said is what the calls came to, over any
+//! The kit's contracts of these calls say nothing of arguments and names. So what is said is what the calls came to, over any
 //! system. Each call of `Host` is one of the kit's, and tests show that it passes the name on.
-ghost use Rattle.std.specs.Prelude.{List, ℕ, Option, ⊤};
+ghost use Rattle.std.specs.Prelude.{List, ℕ, Option, map, string_bytes, ⊤};
+ghost use Rattle.std.specs.Option.{option_map};
 ghost use Rattle.std.specs.Result.{result_ok};
 
 use std::fs::File;
-use std::io;
 use std::io::Read;
-use std::rt::Files;
+use std::rt::{Env, Files};
+use std::{env, io};
+
+/// The arguments of a process.
+pub trait Arguments {
+    /// Reading the arguments may come to these, or to none.
+    ghost may_be: { Self → Option (List (List ℕ)) → Type 0 };
+
+    /// Reads the arguments. The first is the name of the program.
+    fn read(&self) -> io::Result<Vec<String>>
+        ensures { may_be self.now (option_map (λ all. map string_bytes all.items) (result_ok result)) };
+}
 
 /// Files and standard input.
 pub trait System {
@@ -40,6 +51,14 @@ pub struct Host<'a, R> {
 impl<'a, R> Host<'a, R> {
     pub fn new(rt: &'a R) -> Host<'a, R> {
         Host { rt }
+    }
+}
+
+impl<R: Env + AllocGlobal> Arguments for Host<'_, R> {
+    ghost may_be = { λ _ _. ⊤ };
+
+    fn read(&self) -> io::Result<Vec<String>> {
+        Ok(env::args(self.rt)?.collect(self.rt.alloc())?)
     }
 }
 
