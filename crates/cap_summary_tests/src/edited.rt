@@ -1,7 +1,7 @@
 //! A tree of some hundred steps, and summaries in which a part is replaced.
 
 use crate::reported::COPIES;
-use crate::traces::{step_of, steps_of};
+use crate::traces::{step_of, steps_of, tree_of};
 use cap_machine::{Profile, Start, Step};
 use cap_summary::{Summary, resolve};
 use cap_tree::{Meter, NoMemory, Segment, Side, Similarity, Tree};
@@ -15,14 +15,6 @@ static EDITS: [(usize, &str, usize); 3] = [
     (300, "100 read(4) RET 1", 299),
     (0, "100 cap_rights_limit(3,CAP_WRITE) RET 0", 1),
 ];
-
-/// The tree of these steps, at most 1000.
-fn tree_of(alloc: Global, steps: Vec<Rc<Step>>) -> Result<Tree<Summary>, NoMemory> {
-    if steps.len() > 1000 {
-        return Err(NoMemory);
-    }
-    Tree::from_list(alloc, &mut Meter::new(), steps)
-}
 
 /// The tree with another step at a place.
 fn edited(

@@ -1,9 +1,9 @@
-//! Traces as steps and as summaries.
+//! Traces as steps, trees and summaries.
 
 use cap_machine::{Profile, Step};
 use cap_summary::Summary;
 use cap_trace::parse_line;
-use cap_tree::{Meter, NoMemory, Segment};
+use cap_tree::{Meter, NoMemory, Segment, Tree};
 use std::alloc::Global;
 use std::rc::Rc;
 use std::test::Fail;
@@ -28,6 +28,14 @@ pub fn steps_of(alloc: Global, profile: Profile, parts: Parts<'_>) -> Result<Vec
         }
     }
     Ok(steps)
+}
+
+/// The tree of these steps, at most 1000.
+pub fn tree_of(alloc: Global, steps: Vec<Rc<Step>>) -> Result<Tree<Summary>, NoMemory> {
+    if steps.len() > 1000 {
+        return Err(NoMemory);
+    }
+    Tree::from_list(alloc, &mut Meter::new(), steps)
 }
 
 /// The summary of these steps: of the first alone, joined to that of the others at once.
