@@ -416,7 +416,7 @@ const ENDLESS: Run<'static> = Run {
     ..AT_ONCE
 };
 
-static BROKEN: [Run<'static>; 24] = [
+static BROKEN: [Run<'static>; 23] = [
     // A profile decides what an exec closes.
     Run {
         trace: (EXECUTED, 20, 0),
@@ -538,14 +538,6 @@ static BROKEN: [Run<'static>; 24] = [
         ..CUT
     },
     Run {
-        other: (b"count\ncount\n", 1, 0),
-        room: (99, 0),
-        outcome: Ended(Outcome::WriteFault),
-        written: "",
-        other_reads: Some(6),
-        ..CUT
-    },
-    Run {
         other: (b"count\ncount", 1, 0),
         room: (99, 3),
         outcome: Ended(Outcome::WriteFault),
@@ -575,4 +567,20 @@ fn a_broken_device_ends_the_call(rt: HostRuntime) -> Result<(), Fail> {
         ends(rt.alloc(), run)?;
     }
     Ok(())
+}
+
+/// A script of two lines that comes byte by byte, for a writer that takes nothing.
+static UNWRITTEN: Run<'static> = Run {
+    other: (b"count\ncount\n", 1, 0),
+    room: (99, 0),
+    outcome: Ended(Outcome::WriteFault),
+    written: "",
+    other_reads: Some(6),
+    ..CUT
+};
+
+/// The first line has six bytes with its end. The second isn't read before the reply to the first is written.
+#[test]
+fn a_writer_that_fails_at_once_leaves_the_second_line_unread(rt: HostRuntime) -> Result<(), Fail> {
+    ends(rt.alloc(), &UNWRITTEN)
 }
