@@ -4,6 +4,7 @@ use Rattle.std.proofs.Common.{refl, ap, sym, ◌∙◌, arith, inl, inr, IfOk, O
 use Rattle.std.specs.Prelude.{nat_le, Result, Ok, Err, insert, remove, slice_set, if◌then◌else◌}
 use Rattle.std.proofs.lemmas.Bool.{cases_lt}
 use Rattle.std.proofs.lemmas.List.Edits.{length-insert, length-remove}
+use Rattle.std.proofs.lemmas.List.{length-set}
 use Rattle.std.proofs.lemmas.List.Folds.{list_any-append}
 use Rattle.std.proofs.Math.Pow.{pow_mono}
 use Rattle.cap_trace.specs.Entry.{Entry}
@@ -51,7 +52,7 @@ lines_then limit trace next (Delete k) is =
 lines_then limit trace next (Replace k line) is =
     let at = at_position (is_position k (length trace)) (with_read (line_of line.now) (slice_set trace (k - 1))) next is in
     let read = of_line (line_of line.now) (slice_set trace (k - 1)) next at.1 in
-    omega (arith, ap length read.2, length-slice_set trace (k - 1) read.0)
+    omega (arith, ap length read.2, length-set trace (k - 1) read.0)
 
 pub counted_none : (s : SessionState) → JoinsAfter s s []
 counted_none s = record { none = λ is. refl; some = λ is. absurd (cc) }

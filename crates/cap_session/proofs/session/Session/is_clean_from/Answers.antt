@@ -9,8 +9,8 @@ use Rattle.cap_session.specs.Session.{SessionState}
 use Rattle.cap_session.proofs.FoundText.{none_found}
 use Rattle.cap_session.proofs.session.Session.is_clean_from.Goals as goal
 
-pub returns-in-Some : goal.returns-in-Some
-returns-in-Some c =
+pub returns-in-Some-clause-clean : goal.returns-in-Some-clause-clean
+returns-in-Some-clause-clean c =
     let z = c.summary-summary.result.now in
     let what : summed_up z ≡ steps c.args.self.now.profile c.args.self.now.trace = c.summary-summary.ensures.steps
     ∙ subst (λ (s : SessionState). c.self.inside.tree ≡ steps s.profile s.trace) c.self.view_is
