@@ -3,7 +3,7 @@
 use crate::machine::{Before, CELLS, OnTrace, try_all};
 use crate::sessions::{Query, ask_each};
 use cap_machine::{
-    Cell, Entering, Limit, Limits, LimitsBefore, MakerLimit, NoMemory, OnExec, Profile, Start,
+    Cell, Entering, Limit, Limits, LimitsBefore, MakerRow, NoMemory, OnExec, Profile, Start,
     limits_among, limits_before, limits_of_makers, live_after, machine_after, standing_fds,
 };
 use cap_rights::{RightSet, parse_rights};
@@ -11,8 +11,8 @@ use cap_trace::{Fd, Line};
 use std::alloc::Global;
 use std::test::Fail;
 
-/// An unknown descriptor, a pipe that a child reads, and a file that the child opens.
-static TRACE: [&str; 9] = [
+/// An unknown descriptor, a pipe that a child reads, a file that the child opens, and a queue.
+static TRACE: [&str; 11] = [
     "100 @start(0)",
     "100 @foreign(7)",
     "100 pipe() RET 3,4",
@@ -22,6 +22,8 @@ static TRACE: [&str; 9] = [
     "100 fsync(7) RET 0",
     "101 open(\"a\",O_RDONLY) RET 5",
     "101 fstat(5) RET 0",
+    "100 kqueue() RET 8",
+    "100 fstat(8) RET 0",
 ];
 
 /// What is asked for, in profile 2.
@@ -144,16 +146,32 @@ fn limits_parent(alloc: Global, start: &Start, lines: &[Line]) -> Result<bool, N
 }
 
 /// Whether this limits a descriptor to the rights of a name, after the line at a position.
-fn is_limited_after(limit: &MakerLimit, at: usize, fd: Fd, name: &[u8]) -> bool {
-    limit.at == at && limit.fd == fd && is_named(limit.rights, name)
+fn is_limited_after(row: &MakerRow, at: usize, fd: Fd, name: &[u8]) -> bool {
+    match row {
+        MakerRow::Held(limit) => {
+            limit.at == at && limit.fd == fd && is_named(limit.rights, name)
+        }
+        MakerRow::Unknown(_) => false,
+    }
 }
 
-/// Whether the limits of what the lines made are those of the file and of the pipe.
+/// Whether this says that rights of a name are needed of an unknown descriptor, which the line at a position made.
+fn is_needed_after(row: &MakerRow, at: usize, fd: Fd, name: &[u8]) -> bool {
+    match row {
+        MakerRow::Unknown(limit) => {
+            limit.at == at && limit.fd == fd && is_named(limit.rights, name)
+        }
+        MakerRow::Held(_) => false,
+    }
+}
+
+/// Whether what is said of what the lines made is right of the queue, the file and the pipe.
 fn limits_made(alloc: Global, start: &Start, lines: &[Line]) -> Result<bool, NoMemory> {
-    let limits = limits_of_makers(alloc, Profile::Two, start, lines)?;
-    match limits.as_slice() {
-        [file, write, read] => Ok(
-            is_limited_after(file, 8, 5, b"CAP_FSTAT")
+    let rows = limits_of_makers(alloc, Profile::Two, start, lines)?;
+    match rows.as_slice() {
+        [queue, file, write, read] => Ok(
+            is_needed_after(queue, 10, 8, b"CAP_FSTAT")
+                && is_limited_after(file, 8, 5, b"CAP_FSTAT")
                 && is_limited_after(write, 3, 4, b"CAP_WRITE")
                 && is_limited_after(read, 3, 3, b"CAP_READ"),
         ),
@@ -213,7 +231,8 @@ fn limits_of_makers_refused(rt: HostRuntime) -> Result<(), Fail> {
 static SCRIPTS: [(Query, &str); 2] = [
     (
         Query::Limits(None),
-        "insert 9 101 cap_rights_limit(5,CAP_FSTAT) RET 0\n\
+        "# descriptor 8 of process 100, made at line 10, isn't known; later calls need CAP_FSTAT\n\
+insert 9 101 cap_rights_limit(5,CAP_FSTAT) RET 0\n\
 insert 4 100 cap_rights_limit(4,CAP_WRITE) RET 0\n\
 insert 4 100 cap_rights_limit(3,CAP_READ) RET 0\n",
     ),

@@ -13,7 +13,8 @@ use Rattle.cap_machine.specs.declared.limits.Limits.{Limits}
 use Rattle.cap_machine.specs.declared.limits.LimitsBefore.TheVariants as there
 use Rattle.cap_machine.specs.declared.limits.Entering.{Entering}
 use Rattle.cap_machine.specs.declared.limits.Entering.TheVariants.{Inside, Blocked, May}
-use Rattle.cap_machine.specs.declared.makers.MakerLimit.{MakerLimit}
+use Rattle.cap_machine.specs.declared.makers.MakerRow.{MakerRow}
+use Rattle.cap_machine.specs.declared.makers.MakerRow.TheVariants as made
 use Rattle.cap_session.specs.Replies.{refused_text}
 use Rattle.cap_session.specs.LimitScripts.{ScriptLine, comment, insertion, insertions, limit_line, makers_script}
 use Rattle.cap_session.specs.LimitScripts.{entering_line, unknown_lines, beginning_script}
@@ -23,7 +24,7 @@ use Rattle.cap_session.specs.LimitTextLaws.{LimitsBeforeAreAccepted, MakerLimits
 use Rattle.cap_session.proofs.LimitFacts.{process_facts, line_pid}
 use Rattle.cap_session.proofs.LimitLines.{named_read, enter_read}
 use Rattle.cap_session.proofs.MakerFacts.{maker_facts}
-use Rattle.cap_session.proofs.LimitPremises.{IsRow, IsMakerLimit, ProcessFacts}
+use Rattle.cap_session.proofs.LimitPremises.{IsRow, IsSpelledRow, ProcessFacts}
 use Rattle.cap_session.proofs.LimitScripts.{nothing_accepted, beginning_accepted, process_accepted, makers_accepted}
 
 -- ---- all insertions are made
@@ -109,19 +110,18 @@ limits_before_are_accepted profile start t k (there.Limits limits) spelled prope
 
 -- ---- after the lines that made descriptors
 
-makers_read : (t : List Entry) (limits : List MakerLimit) → All (IsMakerLimit t) limits
-    → All (λ (limit : MakerLimit). IsNamed limit.rights) limits → ReadsBack (makers_script limits)
-makers_read t [] fits named = tt
-makers_read t (limit ∷ more) fits named =
-    let Named : MakerLimit → Type 0 = λ (l : MakerLimit). IsNamed l.rights in
-    let one = All-head (IsMakerLimit t) limit more fits in (
-      named_read limit.pid (limit.fd, limit.rights) one.1 one.2 (All-head Named limit more named),
-      makers_read t more (All-tail (IsMakerLimit t) limit more fits) (All-tail Named limit more named),
+makers_read : (t : List Entry) (rows : List MakerRow) → All (IsSpelledRow t) rows → ReadsBack (makers_script rows)
+makers_read t [] are = tt
+makers_read t (made.Held limit ∷ more) are =
+    let one = All-head (IsSpelledRow t) (made.Held limit) more are in (
+      named_read limit.pid (limit.fd, limit.rights) one.0.1 one.0.2 one.1,
+      makers_read t more (All-tail (IsSpelledRow t) (made.Held limit) more are),
     )
+makers_read t (made.Unknown limit ∷ more) are =
+    makers_read t more (All-tail (IsSpelledRow t) (made.Unknown limit) more are)
 
 pub maker_limits_are_accepted : MakerLimitsAreAccepted
-maker_limits_are_accepted profile start t limits spelled proper are left replies run =
-    let facts = maker_facts profile start t limits spelled proper are in
-    let accepts = makers_accepted profile t left limits replies proper.1 facts.fits run in
-    let reads = makers_read t limits facts.fits facts.named in
-    (accepts, λ ok. leaves t left (makers_script limits) replies reads accepts ok)
+maker_limits_are_accepted profile start t rows spelled proper are left replies run =
+    let facts = maker_facts profile start t rows spelled proper are in
+    let accepts = makers_accepted profile t left rows replies proper.1 facts run in
+    (accepts, λ ok. leaves t left (makers_script rows) replies (makers_read t rows facts) accepts ok)

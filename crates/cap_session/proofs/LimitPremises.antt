@@ -10,6 +10,8 @@ use Rattle.cap_machine.specs.declared.limits.Entering.{Entering}
 use Rattle.cap_machine.specs.declared.limits.Entering.TheVariants.{Inside, Blocked, May}
 use Rattle.cap_machine.specs.declared.limits.Limits.{Limits}
 use Rattle.cap_machine.specs.declared.makers.MakerLimit.{MakerLimit}
+use Rattle.cap_machine.specs.declared.makers.MakerRow.{MakerRow}
+use Rattle.cap_machine.specs.declared.makers.MakerRow.TheVariants as made
 use Rattle.cap_session.specs.LimitScriptLaws.{IsNamed}
 
 -- a descriptor and a set of rights
@@ -26,6 +28,10 @@ StandsInTheWay t (Blocked n) = (line : Entry) × (slice_get t (n - 1) ≡ Some l
 abbrev pub IsMakerLimit : List Entry → MakerLimit → Type 0
 IsMakerLimit t limit = (limit.at ≤ length t) × IsPid limit.pid × IsRow (limit.fd, limit.rights)
 
+abbrev pub IsSpelledRow : List Entry → MakerRow → Type 0
+IsSpelledRow t (made.Held limit) = IsMakerLimit t limit × IsNamed limit.rights
+IsSpelledRow t (made.Unknown limit) = IsMakerLimit t limit
+
 pub record ProcessFacts (t : List Entry) (limits : Limits) : Type 0 where
   pub pid : IsPid limits.pid
   pub rows : All IsRow (map row_of limits.held.items)
@@ -33,7 +39,3 @@ pub record ProcessFacts (t : List Entry) (limits : Limits) : Type 0 where
   pub few : length (map row_of limits.held.items) ≤ 2 ^ 32
   pub unknown : All IsRow (map row_of limits.unknown.items)
   pub stands : StandsInTheWay t limits.entering
-
-pub record MakerFacts (t : List Entry) (limits : List MakerLimit) : Type 0 where
-  pub fits : All (IsMakerLimit t) limits
-  pub named : All (λ (limit : MakerLimit). IsNamed limit.rights) limits

@@ -27,6 +27,8 @@ use Rattle.cap_machine.specs.Judge.{is_forbidden}
 use Rattle.cap_machine.specs.Rule.{requirement, call_requirement, item_requirement}
 use Rattle.cap_machine.specs.declared.cell.Profile.{Profile}
 use Rattle.cap_machine.specs.declared.makers.MakerLimit.{MakerLimit}
+use Rattle.cap_machine.specs.declared.makers.MakerRow.{MakerRow}
+use Rattle.cap_machine.specs.declared.makers.MakerRow.TheVariants as made
 use Rattle.cap_session.specs.declared.edit.Edit.TheVariants.{Insert}
 use Rattle.cap_session.specs.declared.refused.Refused.{Refused}
 use Rattle.cap_session.specs.declared.refused.Refused.TheVariants.{Full}
@@ -40,12 +42,12 @@ use Rattle.cap_session.specs.Trace.{is_skipped}
 use Rattle.cap_session.specs.LimitScripts.{ScriptLine, comment, insertion, bytes_of, words_of, script_text, insertions}
 use Rattle.cap_machine.specs.declared.limits.Entering.{Entering}
 use Rattle.cap_machine.specs.declared.limits.Entering.TheVariants.{Inside, Blocked, May}
-use Rattle.cap_session.specs.LimitScripts.{limit_line, enter_line, makers_script, process_script}
+use Rattle.cap_session.specs.LimitScripts.{limit_line, enter_line, made_words, makers_script, process_script}
 use Rattle.cap_session.specs.LimitScripts.{place_words, begins_words, beginning_script, unknown_words, inside_words}
 use Rattle.cap_session.specs.LimitScripts.{blocked_words, call_text, entering_line, unknown_lines}
 use Rattle.cap_session.specs.LimitScriptLaws.{Accepts, ok_text}
 use Rattle.cap_session.specs.LimitStreams.{limits_script}
-use Rattle.cap_session.proofs.LimitPremises.{IsRow, StandsInTheWay, IsMakerLimit, ProcessFacts}
+use Rattle.cap_session.proofs.LimitPremises.{IsRow, StandsInTheWay, IsMakerLimit, IsSpelledRow, ProcessFacts}
 use Rattle.cap_session.proofs.LimitLines.{limit_short, limit_read, limit_no_lf, enter_short, enter_read, enter_no_lf}
 use Rattle.cap_session.proofs.LimitLines.{asks_insert}
 use Rattle.cap_session.proofs.LinesOfText.{has_no_lf, no_lf_both, no_lf_joined, no_lf_decimal, no_lf_rights, room}
@@ -218,25 +220,61 @@ limit_fits n at p row low high small pid is = record {
   read = limit_read p row pid is;
 }
 
-makers_fit : (t : List Entry) (n : ℕ) (limits : List MakerLimit) → length t ≤ n → length t ≤ 1000000
-    → All (IsMakerLimit t) limits → Fits n (makers_script limits)
+words_fit : (words : List (List ℕ)) → list_all has_no_lf words ≡ true → room words ≤ 1000 → FitsComment words
+words_fit words no_lf short =
+    let all : list_all has_no_lf (words_of (comment words)) ≡ true = no_lf in
+    record {
+      no_lf = no_lf_joined (words_of (comment words)) all;
+      short = omega (arith, joined_room (words_of (comment words)), short);
+    }
+
+made_fits : (t : List Entry) (limit : MakerLimit) → length t ≤ 1000000 → IsMakerLimit t limit
+    → FitsComment (made_words limit)
+made_fits t limit few (high, pid, row) =
+    let own : limit.pid ≤ 99999 = pid.1 in
+    let small_pid : limit.pid < 18446744073709551616 = omega (arith, own) in
+    let small_at : limit.at < 18446744073709551616 = omega (arith, high, few) in
+    let fd = row.0 in
+    let small_fd : limit.fd < 18446744073709551616 = omega (arith, fd) in
+    words_fit (made_words limit)
+    (and_from _ _ (no_lf_decimal limit.fd small_fd)
+    (and_from _ _ (no_lf_both (decimal limit.pid) (codes ", made at line") (no_lf_decimal limit.pid small_pid) refl)
+    (and_from _ _
+    (no_lf_both (decimal limit.at) (codes ", isn't known; later calls need") (no_lf_decimal limit.at small_at) refl)
+    (and_from _ _ (no_lf_rights limit.rights row.1) refl))))
+    (omega (
+      arith,
+      length-append (decimal limit.pid) (codes ", made at line"),
+      length-append (decimal limit.at) (codes ", isn't known; later calls need"),
+      decimal_short limit.fd small_fd,
+      decimal_short limit.pid small_pid,
+      decimal_short limit.at small_at,
+      text_is_short limit.rights,
+    ))
+
+makers_fit : (t : List Entry) (n : ℕ) (rows : List MakerRow) → length t ≤ n → length t ≤ 1000000
+    → All (IsSpelledRow t) rows → Fits n (makers_script rows)
 makers_fit t n [] le few all = tt
-makers_fit t n (limit ∷ more) le few all =
-    let one = first_of (IsMakerLimit t) limit more all in
-    let at = one.0 in (
+makers_fit t n (made.Held limit ∷ more) le few all =
+    let one = first_of (IsSpelledRow t) (made.Held limit) more all in
+    let at = one.0.0 in (
       limit_fits n (limit.at + 1) limit.pid (limit.fd, limit.rights) (omega arith) (omega (arith, at, le))
-          (omega (arith, at, few)) one.1 one.2,
-      makers_fit t (n + 1) more (omega (arith, le)) few (rest_of (IsMakerLimit t) limit more all),
+          (omega (arith, at, few)) one.0.1 one.0.2,
+      makers_fit t (n + 1) more (omega (arith, le)) few (rest_of (IsSpelledRow t) (made.Held limit) more all),
     )
+makers_fit t n (made.Unknown limit ∷ more) le few all = (
+  made_fits t limit few (first_of (IsSpelledRow t) (made.Unknown limit) more all),
+  makers_fit t n more le few (rest_of (IsSpelledRow t) (made.Unknown limit) more all),
+)
 
 -- `edit` accepts each line of it, while the trace has room and memory is there
-pub makers_accepted : (profile : Profile) (t left : List Entry) (limits : List MakerLimit) (replies : List ℕ)
-    → length t ≤ most_lines → All (IsMakerLimit t) limits
-    → Run profile t (lines (script_text (makers_script limits))) replies left
-    → Accepts t (makers_script limits) replies left
-makers_accepted profile t left limits replies few all run =
-    text_accepted profile t left (makers_script limits) replies few
-    (makers_fit t (length t) limits (omega arith) few all) run
+pub makers_accepted : (profile : Profile) (t left : List Entry) (rows : List MakerRow) (replies : List ℕ)
+    → length t ≤ most_lines → All (IsSpelledRow t) rows
+    → Run profile t (lines (script_text (makers_script rows))) replies left
+    → Accepts t (makers_script rows) replies left
+makers_accepted profile t left rows replies few all run =
+    text_accepted profile t left (makers_script rows) replies few
+    (makers_fit t (length t) rows (omega arith) few all) run
 
 -- ---- of one process
 
@@ -252,14 +290,6 @@ rows_fit n at p (row ∷ rows) others low high small pid all fits =
       rows_fit (n + 1) (at + 1) p rows others (omega arith) (omega (arith, high)) (omega (arith, small)) pid
           (rest_of IsRow row rows all) (subst (λ (m : ℕ). Fits m others) same fits),
     )
-
-words_fit : (words : List (List ℕ)) → list_all has_no_lf words ≡ true → room words ≤ 1000 → FitsComment words
-words_fit words no_lf short =
-    let all : list_all has_no_lf (words_of (comment words)) ≡ true = no_lf in
-    record {
-      no_lf = no_lf_joined (words_of (comment words)) all;
-      short = omega (arith, joined_room (words_of (comment words)), short);
-    }
 
 place_fits : (p k : ℕ) → p ≤ 99999 → k ≤ 1000000 → FitsComment (place_words p k)
 place_fits p k pid at = words_fit (place_words p k)

@@ -8,11 +8,13 @@ use Rattle.std.proofs.lemmas.List.Concat.{flat_map-append}
 use Rattle.cap_rights.specs.Text.{text}
 use Rattle.cap_machine.specs.Report.{line_of_words}
 use Rattle.cap_machine.specs.declared.makers.MakerLimit.{MakerLimit}
+use Rattle.cap_machine.specs.declared.makers.MakerRow.{MakerRow}
 use Rattle.cap_trace.specs.Entry.{Entry}
 use Rattle.cap_machine.specs.Limits.{Row, row_of}
 use Rattle.cap_machine.specs.declared.limit.Limit.{Limit}
 use Rattle.cap_session.specs.LimitScripts.{ScriptLine, insertion, comment, insertions, limit_line, maker_line, maker_lines}
 use Rattle.cap_session.specs.LimitScripts.{enter_line, words_of, script_text, begins_words, place_words, unknown_lines, unknown_words}
+use Rattle.cap_session.specs.LimitScripts.{made_words}
 
 parts : (o i k f c r e z n : List ℕ)
     → (((o ++ i) ++ (k ++ (f ++ c))) ++ r) ++ (e ++ (z ++ n))
@@ -37,20 +39,20 @@ insertion_put at pid fd rights m o o1 o2 o3 o4 same e1 e2 e3 e4 =
     ∙ ap (λ (l : List ℕ). o ++ (l ++ codes "\n")) (begins (codes "insert ") (decimal at) (codes " ") (decimal pid)
     (codes " cap_rights_limit(" ++ ((decimal fd ++ (codes "," ++ text rights)) ++ (codes ") RET " ++ decimal 0))))
 
--- the text of one limit more
-pub makers_more : (limits : List MakerLimit) (i : ℕ) (one : MakerLimit) (before after : List ℕ) → i < length limits
-    → one ≡ get_or limits i one → before ≡ maker_lines (take i limits)
-    → after ≡ before ++ line_of_words (words_of (maker_line one)) → after ≡ maker_lines (take (i + 1) limits)
-makers_more limits i one before after lt at so_far is =
-    let line : MakerLimit → List ℕ = λ (limit : MakerLimit). line_of_words (words_of (maker_line limit)) in
-    let last : maker_lines (get_or limits i one ∷ []) ≡ line_of_words (words_of (maker_line one)) =
-    append-nil (line_of_words (words_of (maker_line (get_or limits i one))))
-    ∙ ap (λ (limit : MakerLimit). line_of_words (words_of (maker_line limit))) (sym at) in
+-- the text of one row more
+pub makers_more : (rows : List MakerRow) (i : ℕ) (one : MakerRow) (before after : List ℕ) → i < length rows
+    → one ≡ get_or rows i one → before ≡ maker_lines (take i rows)
+    → after ≡ before ++ line_of_words (words_of (maker_line one)) → after ≡ maker_lines (take (i + 1) rows)
+makers_more rows i one before after lt at so_far is =
+    let line : MakerRow → List ℕ = λ (row : MakerRow). line_of_words (words_of (maker_line row)) in
+    let last : maker_lines (get_or rows i one ∷ []) ≡ line_of_words (words_of (maker_line one)) =
+    append-nil (line_of_words (words_of (maker_line (get_or rows i one))))
+    ∙ ap (λ (row : MakerRow). line_of_words (words_of (maker_line row))) (sym at) in
     is ∙ ap (λ (l : List ℕ). l ++ line_of_words (words_of (maker_line one))) so_far
-    ∙ ap (λ (l : List ℕ). maker_lines (take i limits) ++ l) (sym last)
-    ∙ sym (flat_map-append (λ (limit : MakerLimit). line_of_words (words_of (maker_line limit))) (take i limits)
-    (get_or limits i one ∷ []))
-    ∙ ap maker_lines (sym (take_more limits i one lt))
+    ∙ ap (λ (l : List ℕ). maker_lines (take i rows) ++ l) (sym last)
+    ∙ sym (flat_map-append (λ (row : MakerRow). line_of_words (words_of (maker_line row))) (take i rows)
+    (get_or rows i one ∷ []))
+    ∙ ap maker_lines (sym (take_more rows i one lt))
 
 -- ---- limits that are put in one after the other
 
@@ -169,3 +171,34 @@ entry_put at pid o o1 o2 e1 e2 =
     rw (e2, e1) (entry_parts o (inserted at pid) (codes " cap_enter() RET ") (decimal 0) (codes "\n"))
     ∙ ap (λ (l : List ℕ). o ++ (l ++ codes "\n")) (begins (codes "insert ") (decimal at) (codes " ") (decimal pid)
     (codes " cap_enter() RET " ++ decimal 0))
+
+-- ---- a descriptor that a line made and that isn't known
+
+-- how its comment begins
+abbrev pub made_start : MakerLimit → List ℕ
+made_start limit = codes "# descriptor " ++ (decimal limit.fd ++ (codes " of process " ++ (decimal limit.pid
+    ++ (codes ", made at line " ++ decimal limit.at))))
+
+made_parts : (o d f b p m a : List ℕ) → (((o ++ (d ++ (f ++ b))) ++ p) ++ m) ++ a
+    ≡ o ++ (d ++ (f ++ (b ++ (p ++ (m ++ a)))))
+made_parts o d f b p m a = simp append_assoc
+
+pub made_put : (limit : MakerLimit) (n m : ℕ) (o o1 o2 o3 o4 : List ℕ) → n ≡ limit.fd → m ≡ limit.pid
+    → o1 ≡ o ++ (codes "# descriptor " ++ (decimal n ++ codes " of process ")) → o2 ≡ o1 ++ decimal m
+    → o3 ≡ o2 ++ codes ", made at line " → o4 ≡ o3 ++ decimal limit.at → o4 ≡ o ++ made_start limit
+made_put limit n m o o1 o2 o3 o4 same own e1 e2 e3 e4 =
+    rw (e4, e3, e2, e1, same, own) (made_parts o (codes "# descriptor ") (decimal limit.fd) (codes " of process ")
+    (decimal limit.pid) (codes ", made at line ") (decimal limit.at))
+
+needed_parts : (o d f b p m a i k t n : List ℕ)
+    → (((o ++ (d ++ (f ++ (b ++ (p ++ ((m ++ k) ++ a)))))) ++ (i ++ k)) ++ t) ++ n
+    ≡ o ++ ((d ++ (f ++ (b ++ ((p ++ m) ++ (k ++ ((a ++ i) ++ (k ++ t))))))) ++ n)
+needed_parts o d f b p m a i k t n = simp append_assoc
+
+pub made_needed_put : (limit : MakerLimit) (o o1 o2 o3 o4 : List ℕ) → o1 ≡ o ++ made_start limit
+    → o2 ≡ o1 ++ codes ", isn't known; later calls need " → o3 ≡ o2 ++ text limit.rights → o4 ≡ o3 ++ codes "\n"
+    → o4 ≡ o ++ line_text (comment (made_words limit))
+made_needed_put limit o o1 o2 o3 o4 e1 e2 e3 e4 =
+    rw (e4, e3, e2, e1) (needed_parts o (codes "# descriptor ") (decimal limit.fd) (codes " of process ")
+    (decimal limit.pid) (codes ", made at line") (decimal limit.at) (codes ", isn't known; later calls need")
+    (codes " ") (text limit.rights) (codes "\n"))

@@ -9,6 +9,11 @@
 --
 --     # process 2101 before line 1
 --     # line 1 is where process 2101 begins
+--
+-- Without a line, for each descriptor that a line made:
+--
+--     insert 4 2101 cap_rights_limit(4,CAP_READ) RET 0
+--     # descriptor 5 of process 2101, made at line 2, isn't known; later calls need CAP_READ
 use Rattle.std.specs.Prelude.{ℕ, ◌+◌, ◌-◌, List, [], ◌∷◌, ◌++◌, length, map, flat_map, codes, decimal}
 use Rattle.std.specs.Prelude.{Option, Some, None}
 use Rattle.std.specs.List.{slice_get, join_with_byte}
@@ -25,6 +30,8 @@ use Rattle.cap_machine.specs.Report.{line_of_words}
 use Rattle.cap_machine.specs.declared.limits.Entering.{Entering}
 use Rattle.cap_machine.specs.declared.limits.Entering.TheVariants.{Inside, Blocked, May}
 use Rattle.cap_machine.specs.declared.makers.MakerLimit.{MakerLimit}
+use Rattle.cap_machine.specs.declared.makers.MakerRow.{MakerRow}
+use Rattle.cap_machine.specs.declared.makers.MakerRow.TheVariants as made
 
 -- ---- lines of a script
 
@@ -61,15 +68,22 @@ enter_line p = record { pid = p; item = items.Call (calls.Bare CapEnter) (answer
 
 -- ---- right after each line that made a descriptor
 
-abbrev pub maker_line : MakerLimit → ScriptLine
-maker_line limit = insertion (limit.at + 1) (limit_line limit.pid (limit.fd, limit.rights))
+-- `descriptor 5 of process 2101, made at line 2, isn't known; later calls need CAP_READ`
+abbrev pub made_words : MakerLimit → List (List ℕ)
+made_words limit =
+    codes "descriptor" ∷ decimal limit.fd ∷ codes "of process" ∷ (decimal limit.pid ++ codes ", made at line")
+    ∷ (decimal limit.at ++ codes ", isn't known; later calls need") ∷ text limit.rights ∷ []
 
-abbrev pub makers_script : List MakerLimit → List ScriptLine
-makers_script limits = map maker_line limits
+abbrev pub maker_line : MakerRow → ScriptLine
+maker_line (made.Held limit) = insertion (limit.at + 1) (limit_line limit.pid (limit.fd, limit.rights))
+maker_line (made.Unknown limit) = comment (made_words limit)
+
+abbrev pub makers_script : List MakerRow → List ScriptLine
+makers_script rows = map maker_line rows
 
 -- its text, as the code has it
-abbrev pub maker_lines : List MakerLimit → List ℕ
-maker_lines limits = flat_map (λ (limit : MakerLimit). line_of_words (words_of (maker_line limit))) limits
+abbrev pub maker_lines : List MakerRow → List ℕ
+maker_lines rows = flat_map (λ (row : MakerRow). line_of_words (words_of (maker_line row))) rows
 
 -- ---- of one process, before a line
 

@@ -5,10 +5,10 @@ use Rattle.cap_machine.specs.declared.cell.Profile.{Profile}
 use Rattle.cap_machine.specs.declared.limits.Limits.{Limits}
 use Rattle.cap_machine.specs.declared.limits.LimitsBefore.{LimitsBefore}
 use Rattle.cap_machine.specs.declared.limits.LimitsBefore.TheVariants as there
-use Rattle.cap_machine.specs.declared.makers.MakerLimit.{MakerLimit}
+use Rattle.cap_machine.specs.declared.makers.MakerRow.{MakerRow}
 use Rattle.cap_machine.specs.Limits.{row_of}
 use Rattle.cap_machine.specs.LimitsBefore.{AreLimitsBefore}
-use Rattle.cap_machine.specs.Makers.{AreMakerLimits}
+use Rattle.cap_machine.specs.Makers.{AreMakerRows}
 use Rattle.cap_machine.specs.State.{Added, start_state}
 use Rattle.cap_machine.specs.Steps.{steps}
 use Rattle.cap_session.specs.AnswerStreams.{Says}
@@ -28,11 +28,12 @@ before_script t k (there.Limits limits) = limits_script t k limits
 before_script t k (there.Begins p) = beginning_script p k
 before_script t k there.NoLine = []
 
--- The text is the script of the least rights of each descriptor that the trace makes, from a start in a profile.
+-- The text is the script of the least rights of each descriptor that the trace makes, from a start in a profile, with a
+-- comment on each that isn't known and of which later lines need something.
 pub record IsMakersText (profile : Profile) (start : List Added) (t : List Entry) (text : List ℕ) : Type 0 where
-  pub limits : List MakerLimit
-  pub least : AreMakerLimits (start_state start) 1 (steps profile t) limits
-  pub is : text ≡ script_text (makers_script limits)
+  pub rows : List MakerRow
+  pub least : AreMakerRows (start_state start) 1 (steps profile t) rows
+  pub is : text ≡ script_text (makers_script rows)
 
 -- The text is the script of the least rights of the descriptors of the process of line k, before that line; where the
 -- process begins there, it says so.

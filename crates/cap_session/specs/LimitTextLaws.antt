@@ -14,13 +14,15 @@ use Rattle.cap_machine.specs.declared.limits.LimitsBefore.{LimitsBefore}
 use Rattle.cap_machine.specs.declared.limits.LimitsBefore.TheVariants as there
 use Rattle.cap_machine.specs.declared.limits.Entering.TheVariants.{Blocked}
 use Rattle.cap_machine.specs.declared.makers.MakerLimit.{MakerLimit}
+use Rattle.cap_machine.specs.declared.makers.MakerRow.{MakerRow}
+use Rattle.cap_machine.specs.declared.makers.MakerRow.TheVariants as made
 use Rattle.cap_machine.specs.declared.verdict.Finding.TheVariants.{Forbidden}
 use Rattle.cap_machine.specs.declared.verdict.Found.{Found}
 use Rattle.cap_machine.specs.Check.{check, found_at}
 use Rattle.cap_machine.specs.LimitLaws.{NewlyLacks}
 use Rattle.cap_machine.specs.Limits.{Row, row_of}
 use Rattle.cap_machine.specs.LimitsBefore.{AreLimitsBefore}
-use Rattle.cap_machine.specs.Makers.{AreMakerLimits, place_of}
+use Rattle.cap_machine.specs.Makers.{AreMakerRows, place_of}
 use Rattle.cap_machine.specs.State.{Added, start_state}
 use Rattle.cap_machine.specs.Steps.{steps}
 use Rattle.cap_session.specs.Limits.{most_lines}
@@ -73,9 +75,9 @@ LimitsBeforeAreAccepted = (profile : Profile) (start : List Added) (t : List Ent
     → EditAccepts profile t (before_script t k limits)
 
 abbrev pub MakerLimitsAreAccepted : Type 0
-MakerLimitsAreAccepted = (profile : Profile) (start : List Added) (t : List Entry) (limits : List MakerLimit)
-    → IsSpelledStart start → IsTrace t → AreMakerLimits (start_state start) 1 (steps profile t) limits
-    → EditAccepts profile t (makers_script limits)
+MakerLimitsAreAccepted = (profile : Profile) (start : List Added) (t : List Entry) (rows : List MakerRow)
+    → IsSpelledStart start → IsTrace t → AreMakerRows (start_state start) 1 (steps profile t) rows
+    → EditAccepts profile t (makers_script rows)
 
 -- ---- before a line
 
@@ -130,27 +132,28 @@ EnteringBeforeIsForbidden = (profile : Profile) (start : List Added) (t : List E
 
 -- ---- after each line that made a descriptor
 
--- where a finding is after the limits were put in, each after its line
-abbrev pub lines_above : List MakerLimit → ℕ → ℕ
+-- where a finding is after the limits were put in, each after its line; a comment puts nothing in
+abbrev pub lines_above : List MakerRow → ℕ → ℕ
 lines_above [] at = 0
-lines_above (limit ∷ more) at = (if nat_lt limit.at at then 1 else 0) + lines_above more at
+lines_above (made.Held limit ∷ more) at = (if nat_lt limit.at at then 1 else 0) + lines_above more at
+lines_above (made.Unknown limit ∷ more) at = lines_above more at
 
-abbrev pub moved_down : List MakerLimit → Found → Found
-moved_down limits found = record { at = found.at + lines_above limits found.at; finding = found.finding }
+abbrev pub moved_down : List MakerRow → Found → Found
+moved_down rows found = record { at = found.at + lines_above rows found.at; finding = found.finding }
 
 abbrev pub MakerLimitsAreEnough : Type 0
-MakerLimitsAreEnough = (profile : Profile) (start : List Added) (t : List Entry) (limits : List MakerLimit)
-    → IsSpelledStart start → IsTrace t → AreMakerLimits (start_state start) 1 (steps profile t) limits
-    → All (IsAmong (map (moved_down limits) (checked profile start t)))
-    (checked profile start (with_script t (makers_script limits)))
+MakerLimitsAreEnough = (profile : Profile) (start : List Added) (t : List Entry) (rows : List MakerRow)
+    → IsSpelledStart start → IsTrace t → AreMakerRows (start_state start) 1 (steps profile t) rows
+    → All (IsAmong (map (moved_down rows) (checked profile start t)))
+    (checked profile start (with_script t (makers_script rows)))
 
--- Least: with any right less in any of them, and all others as they are, some line, or a later limit, newly lacks it.
+-- Least: with any right less in any of the limits, and all others as they are, some line, or a later limit, newly lacks it.
 abbrev pub MakerLimitsAreLeast : Type 0
-MakerLimitsAreLeast = (profile : Profile) (start : List Added) (t : List Entry) (some more : List MakerLimit)
+MakerLimitsAreLeast = (profile : Profile) (start : List Added) (t : List Entry) (some more : List MakerRow)
     (limit less : MakerLimit) (right : ℕ)
     → IsSpelledStart start → IsTrace t
-    → AreMakerLimits (start_state start) 1 (steps profile t) (some ++ limit ∷ more)
+    → AreMakerRows (start_state start) 1 (steps profile t) (some ++ made.Held limit ∷ more)
     → place_of less ≡ place_of limit
     → right < 63 → holds limit.rights right ≡ true → holds less.rights right ≡ false
-    → NewlyLacks (checked profile start (with_script t (makers_script (some ++ less ∷ more))))
-    (checked profile start (with_script t (makers_script (some ++ limit ∷ more)))) right
+    → NewlyLacks (checked profile start (with_script t (makers_script (some ++ made.Held less ∷ more))))
+    (checked profile start (with_script t (makers_script (some ++ made.Held limit ∷ more)))) right

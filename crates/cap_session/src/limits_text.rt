@@ -5,8 +5,9 @@ ghost use Rattle.std.specs.List.{All};
 ghost use Rattle.cap_trace.specs.Entry.{Entry};
 ghost use Rattle.cap_machine.specs.Limits.{row_of};
 ghost use Rattle.cap_machine.specs.Report.{line_of_words};
-ghost use Rattle.cap_machine.specs.declared.makers.MakerLimit.{MakerLimit};
-ghost use Rattle.cap_session.specs.LimitScripts.{limit_line, enter_line, maker_line, maker_lines, words_of, comment};
+ghost use Rattle.cap_machine.specs.declared.makers.MakerRow.{MakerRow};
+ghost use Rattle.cap_machine.specs.Makers.{row_place};
+ghost use Rattle.cap_session.specs.LimitScripts.{limit_line, enter_line, made_words, maker_line, maker_lines, words_of, comment};
 ghost use Rattle.cap_session.specs.LimitScripts.{insertion, insertions, script_text, place_words, unknown_words};
 ghost use Rattle.cap_session.specs.LimitScripts.{unknown_lines, inside_words, blocked_words, call_text, entering_line};
 ghost use Rattle.cap_session.specs.LimitScripts.{begins_words, beginning_script};
@@ -16,8 +17,8 @@ use crate::refused::Refused;
 use crate::trace::is_position;
 use crate::wording::put_between;
 use cap_machine::{
-    Entering, Limit, Limits, LimitsBefore, MakerLimit, NoMemory, Profile, Start, limits_before,
-    limits_of_makers,
+    Entering, Limit, Limits, LimitsBefore, MakerLimit, MakerRow, NoMemory, Profile, Start,
+    limits_before, limits_of_makers,
 };
 use cap_rights::{RightSet, write_rights};
 use cap_trace::{Fd, Line, Pid, put_number};
@@ -51,27 +52,57 @@ fn put_insertion(
     Ok(())
 }
 
-/// Appends the line of a script that puts a limit right after the line that made its descriptor.
-fn put_maker(out: &mut Vec<u8>, limit: &MakerLimit) -> Result<(), NoMemory>
-    requires { limit.now.at < 2 ^ 63 }
-    ensures { OnOk result (out.new.items ≡ out.old.items ++ line_of_words (words_of (maker_line limit.now))) }
+/// Appends for which descriptor a comment is, and which line made it.
+fn put_made(out: &mut Vec<u8>, limit: &MakerLimit) -> Result<(), NoMemory>
+    ensures { OnOk result (out.new.items ≡ out.old.items
+        ++ (codes "# descriptor " ++ (decimal limit.now.fd ++ (codes " of process " ++ (decimal limit.now.pid
+        ++ (codes ", made at line " ++ decimal limit.now.at)))))) }
 {
-    put_insertion(out, limit.at + 1, limit.pid, limit.fd, &limit.rights)
+    put_between(out, b"# descriptor ", u64::from(limit.fd), b" of process ")?;
+    put_number(out, u64::from(limit.pid))?;
+    out.extend_from_slice(b", made at line ")?;
+    put_number(out, limit.at as u64)?;
+    Ok(())
 }
 
-/// The script of limits, each right after a line.
-fn script_of(alloc: Global, limits: &[MakerLimit]) -> Result<Vec<u8>, NoMemory>
-    requires { All (λ (limit : MakerLimit). limit.at < 2 ^ 63) limits.now }
-    ensures { IfOk result (λ text. text.items ≡ maker_lines limits.now) }
+/// Appends the comment that says what later calls need of an unknown descriptor that a line made.
+fn put_made_needed(out: &mut Vec<u8>, limit: &MakerLimit) -> Result<(), NoMemory>
+    ensures { OnOk result (out.new.items ≡ out.old.items ++ line_of_words (words_of (comment (made_words limit.now)))) }
+{
+    put_made(out, limit)?;
+    out.extend_from_slice(b", isn't known; later calls need ")?;
+    write_rights(&limit.rights, out)?;
+    out.extend_from_slice(b"\n")?;
+    Ok(())
+}
+
+/// Appends the line of a script that puts a limit right after the line that made its descriptor, or that comment.
+fn put_maker(out: &mut Vec<u8>, row: &MakerRow) -> Result<(), NoMemory>
+    requires { (row_place row.now).0 < 2 ^ 63 }
+    ensures { OnOk result (out.new.items ≡ out.old.items ++ line_of_words (words_of (maker_line row.now))) }
+{
+    match row {
+        MakerRow::Held(limit) => {
+            put_insertion(out, limit.at + 1, limit.pid, limit.fd, &limit.rights)
+        }
+        MakerRow::Unknown(limit) => put_made_needed(out, limit),
+    }
+}
+
+/// The script of limits, each right after a line, with a comment on each unknown descriptor that is needed.
+fn script_of(alloc: Global, rows: &[MakerRow]) -> Result<Vec<u8>, NoMemory>
+    requires { All (λ (row : MakerRow). (row_place row).0 < 2 ^ 63) rows.now }
+    ensures { IfOk result (λ text. text.items ≡ maker_lines rows.now) }
 {
     let mut text = Vec::new(alloc);
-    for limit in limits {
-        put_maker(&mut text, limit)?;
+    for row in rows {
+        put_maker(&mut text, row)?;
     }
     Ok(text)
 }
 
-/// The script of the least rights of each descriptor that a trace makes, right after the line that made it.
+/// The script of the least rights of each descriptor that a trace makes, right after the line that made it, with a comment
+/// on each that isn't known and of which later lines need something.
 fn makers_text(
     alloc: Global,
     profile: Profile,
@@ -81,8 +112,8 @@ fn makers_text(
     ensures { IfOk result (λ text. IsMakersText profile start.now lines.now.items text.items) }
 {
     let all = lines.as_slice();
-    let limits = limits_of_makers(alloc, profile, start, all)?;
-    let text = script_of(alloc, limits.as_slice())?;
+    let rows = limits_of_makers(alloc, profile, start, all)?;
+    let text = script_of(alloc, rows.as_slice())?;
     Ok(text)
 }
 

@@ -84,7 +84,25 @@ const STARTED: Trace = (
     4,
 );
 
-static MAKERS: [Row; 7] = [
+/// Descriptors that a process accepts, one of which only a child uses, and a child with its descriptor.
+const SERVED: Trace = (
+    b"100 @start(3)\n\
+100 accept(3) RET 4\n\
+100 pdfork() RET 101,5\n\
+101 pdfork() RET 0,5\n\
+101 read(4) RET 1\n\
+101 fstat(5) RET 0\n\
+# The number of a comment isn't counted.\n\
+100 accept4(3,SOCK_CLOEXEC) RET 6\n\
+100 dup(6) RET 7\n\
+100 @uses(5,CAP_PDWAIT)\n\
+100 pipe() RET 8,9\n\
+100 write(7) RET 1\n\
+100 write(9) RET 1\n",
+    12,
+);
+
+static MAKERS: [Row; 9] = [
     (b"", One, (b"", 0), None, Ok("")),
     (b"", One, READ, None, Ok("")),
     // What a child needs is needed of its parent.
@@ -130,6 +148,31 @@ insert 2 100 cap_rights_limit(5,NONE) RET 0\n",
             "insert 3 100 cap_rights_limit(6,CAP_READ) RET 0\n\
 insert 2 100 cap_rights_limit(5,NONE) RET 0\n",
         ),
+    ),
+    // Of what isn't known there is a comment at its place, where something is needed.
+    (
+        b"",
+        One,
+        SERVED,
+        None,
+        Ok(
+            "insert 11 100 cap_rights_limit(9,CAP_WRITE) RET 0\n\
+insert 11 100 cap_rights_limit(8,NONE) RET 0\n\
+# descriptor 7 of process 100, made at line 8, isn't known; later calls need CAP_WRITE\n\
+# descriptor 6 of process 100, made at line 7, isn't known; later calls need CAP_WRITE\n\
+# descriptor 5 of process 100, made at line 3, isn't known; later calls need CAP_PDWAIT\n\
+# descriptor 4 of process 100, made at line 2, isn't known; later calls need CAP_READ\n",
+        ),
+    ),
+    (
+        b"",
+        Two,
+        (
+            b"100 kqueue() RET 4\n100 accept(3) RET 5\n100 read(5) RET -1 errno 93\n",
+            3,
+        ),
+        None,
+        Ok(""),
     ),
     // A start says what is copied.
     (

@@ -1,8 +1,8 @@
 use Rattle.std.proofs.Common.{◌≡◌, List, length, ◌∙◌, ap, sym, subst, arith}
 use Rattle.std.proofs.lemmas.List.{length-map}
 use Rattle.cap_trace.specs.Entry.{Entry}
-use Rattle.cap_machine.specs.declared.makers.MakerLimit.{MakerLimit}
-use Rattle.cap_machine.specs.Makers.{AreMakerLimits}
+use Rattle.cap_machine.specs.declared.makers.MakerRow.{MakerRow}
+use Rattle.cap_machine.specs.Makers.{AreMakerRows}
 use Rattle.cap_machine.specs.Steps.{step, steps}
 use Rattle.cap_machine.specs.State.{start_state}
 use Rattle.cap_session.specs.LimitScripts.{maker_lines}
@@ -16,16 +16,16 @@ script_of-requires c =
     let most = c.as_slice-all.type_inv.1 in
     let long : length (steps c.args.profile lines) ≡ length lines = length-map lines (step c.args.profile) in
     places_below s (steps c.args.profile lines) c.as_slice.result.now 9223372036854775808
-    (subst (λ (l : List MakerLimit). AreMakerLimits s 1 (steps c.args.profile lines) l) (sym c.as_slice.ensures.value)
-    c.in_ok-limits.ensures) (omega (arith, long, most))
+    (subst (λ (l : List MakerRow). AreMakerRows s 1 (steps c.args.profile lines) l) (sym c.as_slice.ensures.value)
+    c.in_ok-rows.ensures) (omega (arith, long, most))
 
 pub returns : goal.returns
 returns c =
     let s = start_state c.args.start.now in
     record {
-      limits = c.in_ok-limits.limits.items;
-      least = subst (λ (l : List Entry). AreMakerLimits s 1 (steps c.args.profile l) c.in_ok-limits.limits.items)
-          c.as_slice-all.ensures.value c.in_ok-limits.ensures;
+      rows = c.in_ok-rows.rows.items;
+      least = subst (λ (l : List Entry). AreMakerRows s 1 (steps c.args.profile l) c.in_ok-rows.rows.items)
+          c.as_slice-all.ensures.value c.in_ok-rows.ensures;
       is = c.in_ok-text.ensures ∙ ap maker_lines c.as_slice.ensures.value
-          ∙ makers_text_is c.in_ok-limits.limits.items;
+          ∙ makers_text_is c.in_ok-rows.rows.items;
     }
