@@ -885,7 +885,7 @@ def denials(text, profile=1, start=""):
 # A right is needed of a descriptor where a later call asks for it of a cell that comes from the descriptor's. So that cell is marked,
 # lines hand the marks on with the cells, and what a call needs of a cell is needed of each of its marks.
 
-MARKED = "marked"  # the mode of the process that is asked about, and of those that have their mode from it
+MARKED = "marked"  # the mode of the process that is asked about, and of those that have their mode from it; and an unknown descriptor
 
 
 def is_success(line):
@@ -943,24 +943,41 @@ def limits_before(processes, lines, first):
 
 
 def made_by(line):
-    """The descriptors that a call made, without that of pdfork, which stays unknown."""
+    """The descriptors that a call made. pdfork answers its own after the child's pid, which is 0 in the child."""
     _, name, given, answer = line
+    if name == "pdfork" and is_success(line):
+        return set(answer[1:]) if answer[0] != 0 else set()
     makes = name in MAKES_ONE + MAKES_TWO + ["dup2"] or (name == "fcntl" and given[1] in COPIES + COPIES_TO)
     return set(answer) if makes and is_success(line) else set()
 
 
+def needed_of(processes, pid, place, lines):
+    """What these lines need of an unknown descriptor: it is marked, as one that holds all rights, so that no need is lost."""
+    processes, needs = Processes(processes.profile, processes.known), {}
+    processes.put(pid, place, Held(EVERYTHING, UNSURE, frozenset({MARKED})))
+    for line in lines:
+        add_needs(processes, line, needs)
+        processes.follow(*line)
+    return needs.get(MARKED, frozenset())
+
+
 def limits_of_made(processes, lines):
-    """The script with a limit after each line that made a descriptor. Marks are the position and the descriptor."""
-    needs = {}
+    """The script with a limit after each line that made a descriptor, or a comment on what is needed of it where it isn't known. Marks
+    are the position and the descriptor."""
+    needs, out = {}, {}
     for at, line in enumerate(lines, 1):
         add_needs(processes, line, needs)
         processes.follow(*line)
         for place in made_by(line):
-            cell = processes.cell(line[0], place)
+            pid, cell = line[0], processes.cell(line[0], place)
             if isinstance(cell, Held):
-                processes.put(line[0], place, cell._replace(marks=cell.marks | {(at, place)}))
+                processes.put(pid, place, cell._replace(marks=cell.marks | {(at, place)}))
                 needs[at, place] = frozenset()
-    return "".join(limit(at + 1, lines[at - 1][0], place, needs[at, place]) for at, place in sorted(needs, reverse=True))
+            elif cell == UNKNOWN and (needed := needed_of(processes, pid, place, lines[at:])):
+                unknown = f"# descriptor {place} of process {pid}, made at line {at}, isn't known"
+                out[at, place] = f"{unknown}; later calls need {rights_text(needed)}\n"
+    out.update({(at, place): limit(at + 1, lines[at - 1][0], place, needed) for (at, place), needed in needs.items()})
+    return "".join(out[mark] for mark in sorted(out, reverse=True))
 
 
 def limits(text, asked=None, profile=1, start=""):

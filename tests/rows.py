@@ -1816,7 +1816,9 @@ insert 7 201 cap_rights_limit(3,NONE) RET 0
 # descriptor 4 isn't known; later calls need CAP_READ|CAP_WRITE
 insert 8 201 cap_enter() RET 0
 """, 4)
-limits("nothing is known of a descriptor that was made", SERVER, "")
+limits("nothing is known of a descriptor that was made, which a child uses", SERVER, """
+# descriptor 4 of process 200, made at line 2, isn't known; later calls need CAP_READ|CAP_WRITE|CAP_SHUTDOWN
+""")
 for position in (0, 10, 11, 9999999999999999999):
     limits(f"no line is at {position}, so there are no limits", SERVER, "refused E7\n", position)
 limits("an empty trace", "", "")
@@ -1996,6 +1998,7 @@ insert 2 1 cap_rights_limit(3,CAP_WRITE|CAP_CREATE|CAP_FSYNC|CAP_LOOKUP|CAP_FSTA
 # no cap_enter: line 5, openat of process 1
 """, 2)
 limits("each descriptor that is opened below another", BELOW, """
+# descriptor 5 of process 1, made at line 5, isn't known; later calls need CAP_FSTAT
 insert 3 1 cap_rights_limit(4,CAP_FSYNC|CAP_FSTAT) RET 0
 insert 2 1 cap_rights_limit(3,CAP_WRITE|CAP_CREATE|CAP_FSYNC|CAP_LOOKUP|CAP_FSTAT|CAP_RENAMEAT_SOURCE|CAP_RENAMEAT_TARGET) RET 0
 """)
@@ -2093,6 +2096,119 @@ insert 5 1 cap_rights_limit(5,NONE) RET 0
 insert 4 1 cap_rights_limit(9,NONE) RET 0
 insert 3 1 cap_rights_limit(3,NONE) RET 0
 """)
+
+# ---- descriptors that a line made and that aren't known
+
+limits("what isn't known of what was made, and one that nothing uses", """
+1 @start(3)
+1 kqueue() RET 4
+1 accept(3) RET 5
+1 accept4(3,SOCK_CLOEXEC) RET 6
+1 accept(3) RET 7
+1 @uses(4,CAP_KQUEUE_CHANGE)
+1 read(5) RET 1
+1 write(6) RET 1
+1 fstat(6) RET 0
+1 lseek(7) RET -1 errno 29
+1 @uses(7,NONE)
+""", """
+# descriptor 6 of process 1, made at line 4, isn't known; later calls need CAP_WRITE|CAP_FSTAT
+# descriptor 5 of process 1, made at line 3, isn't known; later calls need CAP_READ
+# descriptor 4 of process 1, made at line 2, isn't known; later calls need CAP_KQUEUE_CHANGE
+""")
+limits("a process descriptor, which the child doesn't have from its parent", """
+# Comments and empty lines have no position.
+1 @start(3)
+
+1 pdfork() RET 2,4
+2 pdfork() RET 0,4
+2 fstat(4) RET 0
+2 read(3) RET 1
+1 @uses(4,CAP_PDKILL)
+1 pdfork() RET -1 errno 35
+""", "# descriptor 4 of process 1, made at line 2, isn't known; later calls need CAP_PDKILL\n")
+limits("a process descriptor that nothing uses", "1 @start(3)\n1 pdfork() RET 2,4\n2 fstat(4) RET 0\n", "")
+limits("what only a child uses, and its own child", """
+1 @start(3)
+1 accept(3) RET 4
+1 pdfork() RET 2,5
+2 fork() RET 3
+2 read(4) RET 1
+3 write(4) RET 1
+1 close(4) RET 0
+""", "# descriptor 4 of process 1, made at line 2, isn't known; later calls need CAP_READ|CAP_WRITE\n")
+limits("limits and what isn't known, the last line first", """
+1 open("a",O_RDONLY) RET 3
+1 accept(9) RET 5
+1 pipe() RET 6,7
+1 dup(5) RET 8
+1 openat(3,"",O_RDONLY) RET 10
+1 read(3) RET 1
+1 write(7) RET 1
+1 fsync(8) RET 0
+1 fstat(10) RET 0
+2 dup2(9,9) RET 9
+2 @uses(9,CAP_EVENT)
+""", """
+# descriptor 9 of process 2, made at line 10, isn't known; later calls need CAP_EVENT
+# descriptor 10 of process 1, made at line 5, isn't known; later calls need CAP_FSTAT
+# descriptor 8 of process 1, made at line 4, isn't known; later calls need CAP_FSYNC
+insert 4 1 cap_rights_limit(7,CAP_WRITE) RET 0
+insert 4 1 cap_rights_limit(6,NONE) RET 0
+# descriptor 5 of process 1, made at line 2, isn't known; later calls need CAP_FSYNC
+insert 2 1 cap_rights_limit(3,CAP_READ) RET 0
+""")
+limits("a limit takes rights away from what isn't known, and a close ends it", """
+1 accept(3) RET 4
+1 read(4) RET 1
+1 close(4) RET 0
+1 accept(3) RET 4
+1 cap_rights_limit(4,CAP_WRITE) RET 0
+1 fsync(4) RET -1 errno 93
+1 write(4) RET 1
+1 read(4) RET -1 errno 93
+1 accept(3) RET 4
+1 read(4) RET -1 errno 93
+1 shm_open() RET 5
+1 @start(5)
+1 read(5) RET 1
+""", """
+# descriptor 4 of process 1, made at line 4, isn't known; later calls need CAP_WRITE
+# descriptor 4 of process 1, made at line 1, isn't known; later calls need CAP_READ
+""")
+limits("what isn't known after an exec", """
+1 shm_open() RET 4
+1 mq_open() RET 5
+1 fhopen() RET 6
+1 read(4) RET 1
+1 @uses(5,CAP_EVENT)
+1 fcntl(6,F_SETFD,0) RET 0
+1 execve("/bin/x") RET 0
+1 write(4) RET 1
+1 write(6) RET 1
+""", """
+# descriptor 5 of process 1, made at line 2, isn't known; later calls need CAP_EVENT
+# descriptor 4 of process 1, made at line 1, isn't known; later calls need CAP_READ
+""", second="""
+# descriptor 6 of process 1, made at line 3, isn't known; later calls need CAP_WRITE
+# descriptor 5 of process 1, made at line 2, isn't known; later calls need CAP_EVENT
+# descriptor 4 of process 1, made at line 1, isn't known; later calls need CAP_READ
+""")
+limits("all rights are needed of what isn't known", "1 kqueue() RET 1048575\n1 @uses(1048575,ALL)\n", f"""
+# descriptor 1048575 of process 1, made at line 1, isn't known; later calls need {EACH}
+""")
+limits("a start that knows what is copied, and not what is accepted", """
+99999 accept(3) RET 5
+99999 dup(3) RET 6
+99999 dup(4) RET 7
+99999 read(5) RET 1
+99999 read(6) RET 1
+99999 read(7) RET 1
+""", """
+# descriptor 7 of process 99999, made at line 3, isn't known; later calls need CAP_READ
+insert 3 99999 cap_rights_limit(6,NONE) RET 0
+# descriptor 5 of process 99999, made at line 1, isn't known; later calls need CAP_READ
+""", start="99999 out unknown 3=CAP_ACCEPT\n")
 
 # ---- markers of needs: what a recorder knows of a call beside what the rules say
 
