@@ -65,8 +65,12 @@ pub counted_next : (old mid new : SessionState) (answered : List (Result ℕ Ref
     → JoinsAfter old new (answered ++ a ∷ [])
 counted_next old mid new answered e (Ok n) before accepted few kept = record {
   none = λ is. absurd (let all = sym is ∙ list_any-append is_accepted answered (Ok n ∷ []) in grind (arith, all));
-  some = λ is. omega (arith, few, more_bits (lines_at (length mid.trace) e) (length new.trace + 1)
-      (lines_then mid.limit mid.trace new.trace e accepted.0));
+  some = λ is. omega (
+    arith,
+    few,
+    more_bits (lines_at (length mid.trace) e) (length new.trace + 1)
+        (lines_then mid.limit mid.trace new.trace e accepted.0),
+  );
 }
 counted_next old mid new answered e (Err r) before accepted few kept =
     let same : any_accepted (answered ++ Err r ∷ []) ≡ any_accepted answered =

@@ -100,7 +100,8 @@ fn are_large(first: &Known, second: &Known) -> bool
     ensures { result ≡ true → HaveManyRows first.now second.now }
 {
     let _cells = (first.effect.size(), second.effect.size());
-    first.effect.processes().saturating_add(second.effect.processes()) > MOST_PROCESSES
+    let rows = first.effect.processes();
+    rows.saturating_add(second.effect.processes()) > MOST_PROCESSES
 }
 
 impl Content {

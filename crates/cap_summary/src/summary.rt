@@ -142,6 +142,7 @@ fn judge_in_order(
 
 impl Segment for Summary {
     type Item = Step;
+
     type Meter = Meter;
 
     ghost stands = { Stands };

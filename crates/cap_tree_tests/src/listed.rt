@@ -15,6 +15,7 @@ pub struct Listed {
 
 impl Segment for Listed {
     type Item = u32;
+
     type Meter = Meter;
 
     ghost stands = { λ s xs. s.list.items ≡ xs };

@@ -39,6 +39,7 @@ pub struct Watched {
 
 impl Segment for Watched {
     type Item = Watch;
+
     type Meter = Meter;
 
     ghost stands = { λ s xs. s.count ≡ length xs };
