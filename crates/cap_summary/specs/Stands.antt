@@ -1,5 +1,5 @@
 -- What a summary stands for.
-use Rattle.std.specs.Prelude.{length, max, ◌≡◌, ◌≤◌}
+use Rattle.std.specs.Prelude.{length, max, ◌≤◌}
 use Rattle.std.proofs.Common.{arith, length-append}
 use Rattle.cap_summary.specs.{Kept.HasParts, Kept.StandsFor, Kept.content_steps, List, Option, Step, declared.known.Known.Known}
 use Rattle.cap_summary.specs.declared.{node.Content.Content, node.Node.TheDeep.deep-Content, summary.Summary.Summary}
