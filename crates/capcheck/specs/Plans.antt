@@ -1,7 +1,7 @@
 -- What the words of the command line ask for, said by `clap`'s own functions: which words ask for which run, which
 -- for help, and which are a mistake. `Fits` is the contract of `plan_of`.
 use Rattle.std.specs.Prelude.{◌≡◌, ◌⊎◌, ℕ, List, [], Option, Some, None, codes, option_map}
-use Rattle.std.specs.Prelude.{option_and_then, if◌then◌else◌, Bool, true, false, not, ◌&&◌, is_some}
+use Rattle.std.specs.Prelude.{option_and_then, if◌then◌else◌, Bool, false, not, ◌&&◌, is_some}
 use Rattle.std.specs.Str.{bytes_eq}
 use Rattle.std.specs.Borrow.{Bor}
 use Rattle.clap.specs.Words.{HasKind, IsAmong, Kinds, Row, Text, fault_of, first_of, kind_of, subcommand_of}
