@@ -48,6 +48,7 @@ struct Sum {
 
 impl Segment for Sum {
     type Item = u64;
+
     type Meter = Meter;
 
     ghost stands = { λ s xs. s.count ≡ length xs };
