@@ -1,4 +1,5 @@
 pub mod Turns
+pub mod Unknowns
 pub mod Profiles
 pub mod Rights
 pub mod Alarms
@@ -23,6 +24,7 @@ pub mod Within
 pub mod WrittenCells
 pub mod Owners
 pub mod Leaves
+pub mod SingleCells
 pub mod Starts
 pub mod KnownTables
 pub mod StartedLists

@@ -1,5 +1,5 @@
 -- What an effect does to one cell and to one mode; me is the process of the line.
-use Rattle.std.specs.Prelude.{◌≡◌, ℕ, ◌==◌, ◌&&◌, ◌||◌, nat_le, if◌then◌else◌, List, [], ◌∷◌}
+use Rattle.std.specs.Prelude.{Bool, false, true, ℕ, ◌==◌, ◌&&◌, ◌||◌, nat_le, if◌then◌else◌, List, [], ◌∷◌}
 use Rattle.cap_trace.specs.Entry.{IsFd, Arg, an_fd}
 use Rattle.cap_trace.specs.Views.{fds_spelled}
 use Rattle.cap_trace.specs.declared.line.Answer.{Answer}
@@ -84,9 +84,21 @@ abbrev pub FdsWithin : List Arg → Type 0
 FdsWithin [] = Unit {0}
 FdsWithin (a ∷ others) = ArgWithin a × FdsWithin others
 
--- the effect changes no mode, and no cell beyond the limit by itself
+-- the effect gives single cells within the limit a value, and nothing else
 abbrev pub OnlyCells : Effect → Type 0
-OnlyCells effect = ((me p : ℕ) → effect_turn effect me p ≡ stays) × IsWithin effect
+OnlyCells Keep = Unit {0}
+OnlyCells (Give g c) = IsFd g
+OnlyCells (GiveTwo g h c) = IsFd g × IsFd h
+OnlyCells (Change g op h) = IsFd g
+OnlyCells _ = ⊥
+
+-- the effect hands a whole table of cells on, or closes all of one from a descriptor on
+abbrev pub is_on_table : Effect → Bool
+is_on_table Exec = true
+is_on_table (CloseFrom n) = true
+is_on_table (Fork child) = true
+is_on_table (ForkAs child g) = true
+is_on_table _ = false
 
 -- what a call made is a descriptor, or a pid, and none is as large as the largest descriptor
 abbrev pub FitsMade : Answer → Type 0

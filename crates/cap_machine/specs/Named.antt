@@ -88,6 +88,14 @@ is_whole_item (items.Foreign g) = false
 is_whole_item (items.Needs marker g rights) = false
 is_whole_item items.Global = false
 
+-- a step may hand a whole table of cells on, or close all of one from a descriptor on: those calls
+abbrev pub is_table_item : Item → Bool
+is_table_item (items.Call call answer) = is_whole_call call
+is_table_item _ = false
+
+abbrev pub is_table_step : Step → Bool
+is_table_step step = is_table_item step.line.item
+
 -- no step touches another process than its own and its child
 abbrev pub OwnProcesses : Type 0
 OwnProcesses = (step : Step) (p f : ℕ) → names_pid p step.line ≡ false → touch step p f ≡ kept

@@ -33,6 +33,13 @@ with_listed s me m rest cells = record {
   mode = λ p. if p == me then m else s.mode p;
 }
 
+-- process p has this mode, and the cells that are listed; all its other descriptors, and all else, are as before
+abbrev pub with_cells : State → ℕ → Mode → List (ℕ × Cell) → State
+with_cells s me m cells = record {
+  cell = λ p f. if p == me then listed_cell (s.cell me f) cells f else s.cell p f;
+  mode = λ p. if p == me then m else s.mode p;
+}
+
 -- the state after these were added in turn
 abbrev pub with_all : State → List Added → State
 with_all s [] = s

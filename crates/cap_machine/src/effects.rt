@@ -1,7 +1,7 @@
 //! What each form of call does to the cells and the mode of its process and of a child, by what the line records. The
 //! tables are in `docs/RULES.md`.
 
-ghost use Rattle.std.specs.Prelude.{◌≡◌, ℕ, ◌<◌, codes, IsTrue, if◌then◌else◌};
+ghost use Rattle.std.specs.Prelude.{true, false, ◌≡◌, ℕ, ◌<◌, codes, IsTrue, if◌then◌else◌};
 ghost use Rattle.cap_trace.specs.Entry.{IsAnswer, IsFd, args_of_call, kind_of, fcntl_kind};
 ghost use Rattle.cap_trace.specs.Views.{call_view};
 ghost use Rattle.cap_trace.specs.Call as calls;
@@ -15,6 +15,8 @@ ghost use Rattle.cap_machine.specs.Touch.{pdfork_touch, bare_touch, call_touch, 
 ghost use Rattle.cap_machine.specs.Touch.{stays, fork_turn, pdfork_turn, touch, turn};
 ghost use Rattle.cap_machine.specs.Steps.{step};
 ghost use Rattle.cap_machine.specs.Effect.{effect_touch, effect_turn, OnlyCells, IsWithin, FdsWithin, FitsMade, FitsPair};
+ghost use Rattle.cap_machine.specs.Effect.{is_on_table};
+ghost use Rattle.cap_machine.specs.Named.{is_table_step, is_whole_call};
 
 use crate::cell::{Cell, OnExec, Op, Profile};
 use crate::errno::EBADF;
@@ -66,7 +68,7 @@ fn fd_flag_of(flags: &[u8]) -> OnExec
 fn made(answer: &Answer, cell: Cell) -> Effect<'static>
     requires { FitsMade answer.now }
     ensures cells { (me p f : ℕ) → effect_touch result me p f ≡ on_made answer.now (given cell) me p f }
-    ensures modes { OnlyCells result }
+    ensures single { OnlyCells result }
 {
     match answer {
         Answer::Made(fd) => Effect::Give(*fd as Fd, cell),
@@ -78,7 +80,7 @@ fn made(answer: &Answer, cell: Cell) -> Effect<'static>
 fn made_whole(flag: OnExec, answer: &Answer) -> Effect<'static>
     requires { FitsMade answer.now }
     ensures cells { (me p f : ℕ) → effect_touch result me p f ≡ on_made answer.now (whole flag) me p f }
-    ensures modes { OnlyCells result }
+    ensures single { OnlyCells result }
 {
     made(answer, Cell::Held(RightSet::all(), flag))
 }
@@ -87,7 +89,7 @@ fn made_whole(flag: OnExec, answer: &Answer) -> Effect<'static>
 fn made_both(flag: OnExec, answer: &Answer) -> Effect<'static>
     requires { FitsPair answer.now }
     ensures cells { (me p f : ℕ) → effect_touch result me p f ≡ on_both answer.now (whole flag) me p f }
-    ensures modes { OnlyCells result }
+    ensures single { OnlyCells result }
 {
     match answer {
         Answer::Pair(first, second) => {
@@ -102,7 +104,7 @@ fn made_both(flag: OnExec, answer: &Answer) -> Effect<'static>
 fn made_from(fd: Fd, op: Op, answer: &Answer) -> Effect<'static>
     requires { FitsMade answer.now }
     ensures cells { (me p f : ℕ) → effect_touch result me p f ≡ on_made answer.now (taken op me fd) me p f }
-    ensures modes { OnlyCells result }
+    ensures single { OnlyCells result }
 {
     match answer {
         Answer::Made(new) => Effect::Change(*new as Fd, op, fd),
@@ -114,7 +116,7 @@ fn made_from(fd: Fd, op: Op, answer: &Answer) -> Effect<'static>
 fn copied_from(fd: Fd, flag: OnExec, answer: &Answer) -> Effect<'static>
     requires { FitsMade answer.now }
     ensures cells { (me p f : ℕ) → effect_touch result me p f ≡ on_made answer.now (copied flag fd me) me p f }
-    ensures modes { OnlyCells result }
+    ensures single { OnlyCells result }
 {
     made_from(fd, Op::derive(flag), answer)
 }
@@ -124,7 +126,7 @@ fn copied_to_number(itself: Op, flag: OnExec, fd: Fd, to: Fd, answer: &Answer) -
     requires { FitsMade answer.now }
     ensures cells { (me p f : ℕ)
         → effect_touch result me p f ≡ on_made answer.now (copied_to itself flag fd to me) me p f }
-    ensures modes { OnlyCells result }
+    ensures single { OnlyCells result }
 {
     let op = if fd == to { itself } else { Op::derive(flag) };
     made_from(fd, op, answer)
@@ -135,7 +137,7 @@ fn fcntl_copied(command: DupCommand, fd: Fd, to: Fd, answer: &Answer) -> Effect<
     requires { FitsMade answer.now }
     ensures cells { (me p f : ℕ)
         → effect_touch result me p f ≡ on_made answer.now (fcntl_copied_to command fd to me) me p f }
-    ensures modes { OnlyCells result }
+    ensures single { OnlyCells result }
 {
     match command {
         DupCommand::FDup2fd => {
@@ -151,7 +153,7 @@ fn fcntl_copied(command: DupCommand, fd: Fd, to: Fd, answer: &Answer) -> Effect<
 fn changed(fd: Fd, op: Op, answer: &Answer) -> Effect<'static>
     requires { IsFd fd }
     ensures cells { (me p f : ℕ) → effect_touch result me p f ≡ on_success fd answer.now (taken op me fd) me p f }
-    ensures modes { OnlyCells result }
+    ensures single { OnlyCells result }
 {
     match answer {
         Answer::Fault(_) => Effect::Keep,
@@ -163,7 +165,7 @@ fn changed(fd: Fd, op: Op, answer: &Answer) -> Effect<'static>
 pub(crate) fn closed(fd: Fd, answer: &Answer) -> Effect<'static>
     ensures cells { (me p f : ℕ) → effect_touch result me p f ≡ on_fd fd (closing answer.now) me p f }
     ensures modes { (me p : ℕ) → effect_turn result me p ≡ stays }
-    ensures within { IsFd fd → IsWithin result }
+    ensures single { IsFd fd → OnlyCells result }
 {
     match answer {
         Answer::Fault(EBADF) => Effect::Keep,
@@ -175,7 +177,8 @@ pub(crate) fn closed(fd: Fd, answer: &Answer) -> Effect<'static>
 /// execve(2), fexecve(2).
 fn executed(profile: Profile, answer: &Answer) -> Effect<'static>
     ensures cells { (me p f : ℕ) → effect_touch result me p f ≡ exec_touch profile answer.now me p f }
-    ensures modes { OnlyCells result }
+    ensures modes { (me p : ℕ) → effect_turn result me p ≡ stays }
+    ensures within { IsWithin result }
 {
     match (answer, profile) {
         (Answer::Fault(_), _) => Effect::Keep,
@@ -188,7 +191,8 @@ fn executed(profile: Profile, answer: &Answer) -> Effect<'static>
 fn closed_from(profile: Profile, fd: Fd, answer: &Answer) -> Effect<'static>
     requires { IsFd fd }
     ensures cells { (me p f : ℕ) → effect_touch result me p f ≡ closefrom_touch profile fd answer.now me p f }
-    ensures modes { OnlyCells result }
+    ensures modes { (me p : ℕ) → effect_turn result me p ≡ stays }
+    ensures within { IsWithin result }
 {
     match (answer, profile) {
         (Answer::Fault(_), _) | (_, Profile::One) => Effect::Keep,
@@ -215,11 +219,14 @@ pub(crate) fn keeps_all(call: FdCall) -> bool
 }
 
 /// A call whose one argument is a descriptor.
+#[tactic(auto, using(crate::proofs::SingleCells::turns, crate::proofs::SingleCells::within, crate::proofs::SingleCells::tables))]
 fn fd_effect(profile: Profile, call: FdCall, fd: Fd, answer: &Answer) -> Effect<'static>
     requires answer { IsAnswer (kind_of (calls.OnFd call fd)) answer.now }
     requires within { IsFd fd }
     ensures cells { (me p f : ℕ) → effect_touch result me p f ≡ fd_touch profile call fd answer.now me p f }
-    ensures modes { OnlyCells result }
+    ensures modes { (me p : ℕ) → effect_turn result me p ≡ stays }
+    ensures within { IsWithin result }
+    ensures tables { is_on_table result ≡ true → is_whole_call (calls.OnFd call fd) ≡ true }
 {
     match call {
         FdCall::Close => closed(fd, answer),
@@ -236,7 +243,7 @@ fn fd_effect(profile: Profile, call: FdCall, fd: Fd, answer: &Answer) -> Effect<
 fn fcntl_effect(fd: Fd, command: &[u8], answer: &Answer) -> Effect<'static>
     requires { IsAnswer (fcntl_kind command.now) answer.now }
     ensures cells { (me p f : ℕ) → effect_touch result me p f ≡ fcntl_touch command.now fd answer.now me p f }
-    ensures modes { OnlyCells result }
+    ensures single { OnlyCells result }
 {
     if command == b"F_DUPFD".as_slice() {
         copied_from(fd, OnExec::Clear, answer)
@@ -267,7 +274,7 @@ fn openat_effect(dir: Dir, path: &[u8], flags: &[u8], answer: &Answer) -> Effect
     requires { FitsMade answer.now }
     ensures cells { (me p f : ℕ) → effect_touch result me p f
         ≡ on_made answer.now (opened_below (below dir path.now) dir path.now (open_flag flags.now) me) me p f }
-    ensures modes { OnlyCells result }
+    ensures single { OnlyCells result }
 {
     let flag = open_flag_of(flags);
     match below_of(dir, path) {
@@ -292,7 +299,7 @@ fn at_flags_effect(
 ) -> Effect<'static>
     requires { IsAnswer (kind_of (calls.AtFlags call dir path.now flags.now)) answer.now }
     ensures cells { (me p f : ℕ) → effect_touch result me p f ≡ at_touch call dir path.now flags.now answer.now me p f }
-    ensures modes { OnlyCells result }
+    ensures single { OnlyCells result }
 {
     match call {
         AtFlagsCall::Openat => openat_effect(dir, path, flags, answer),
@@ -333,6 +340,7 @@ fn entered(answer: &Answer) -> Effect<'static>
     ensures cells { (me p f : ℕ) → effect_touch result me p f ≡ kept }
     ensures modes { (me p : ℕ) → effect_turn result me p ≡ enter_turn answer.now me p }
     ensures within { IsWithin result }
+    ensures tables { is_on_table result ≡ false }
 {
     match answer {
         Answer::Fault(_) => Effect::Keep,
@@ -341,11 +349,13 @@ fn entered(answer: &Answer) -> Effect<'static>
 }
 
 /// A call without arguments.
+#[tactic(auto, using(crate::proofs::SingleCells::turns, crate::proofs::SingleCells::within, crate::proofs::SingleCells::tables))]
 fn bare_effect(call: BareCall, answer: &Answer) -> Effect<'static>
     requires { IsAnswer (kind_of (calls.Bare call)) answer.now }
     ensures cells { (me p f : ℕ) → effect_touch result me p f ≡ bare_touch call answer.now me p f }
     ensures modes { (me p : ℕ) → effect_turn result me p ≡ call_turn (calls.Bare call) answer.now me p }
     ensures within { IsWithin result }
+    ensures tables { is_on_table result ≡ true → is_whole_call (calls.Bare call) ≡ true }
 {
     match call {
         BareCall::Pipe => made_both(OnExec::Clear, answer),
@@ -362,7 +372,7 @@ fn bare_effect(call: BareCall, answer: &Answer) -> Effect<'static>
 fn flags_effect(call: FlagsCall, flags: &[u8], answer: &Answer) -> Effect<'static>
     requires { IsAnswer (kind_of (calls.OnFlags call flags.now)) answer.now }
     ensures cells { (me p f : ℕ) → effect_touch result me p f ≡ flags_touch call flags.now answer.now me p f }
-    ensures modes { OnlyCells result }
+    ensures single { OnlyCells result }
 {
     match call {
         FlagsCall::Socket => made_whole(socket_flag_of(flags), answer),
@@ -373,6 +383,7 @@ fn flags_effect(call: FlagsCall, flags: &[u8], answer: &Answer) -> Effect<'stati
 
 /// What a call does.
 // Inlined, as the next: a large value that is returned is copied by each function that it goes through.
+#[tactic(auto, using(crate::proofs::SingleCells::turns, crate::proofs::SingleCells::within, crate::proofs::SingleCells::tables))]
 #[inline(always)]
 fn effect_of(profile: Profile, call: &Call<'_>, answer: &Answer) -> Effect<'static>
     requires answer { IsAnswer (kind_of (call_view call.now)) answer.now }
@@ -381,6 +392,7 @@ fn effect_of(profile: Profile, call: &Call<'_>, answer: &Answer) -> Effect<'stat
         → effect_touch result me p f ≡ call_touch profile (call_view call.now) answer.now me p f }
     ensures modes { (me p : ℕ) → effect_turn result me p ≡ call_turn (call_view call.now) answer.now me p }
     ensures within { IsWithin result }
+    ensures tables { is_on_table result ≡ true → is_whole_call (call_view call.now) ≡ true }
 {
     match call {
         Call::OnFd(call, fd) => fd_effect(profile, *call, *fd, answer),
@@ -409,6 +421,7 @@ pub(crate) fn effect_of_line<'a>(profile: Profile, line: &LineRef<'a>) -> Effect
     ensures cells { (p f : ℕ) → effect_touch result line.now.pid p f ≡ touch (step profile line.now) p f }
     ensures modes { (p : ℕ) → effect_turn result line.now.pid p ≡ turn (step profile line.now) p }
     ensures within { IsWithin result }
+    ensures tables { is_on_table result ≡ true → is_table_step (step profile line.now) ≡ true }
 {
     match &line.item {
         Item::Call { call, answer } => effect_of(profile, call, answer),

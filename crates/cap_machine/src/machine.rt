@@ -4,7 +4,9 @@ ghost use Rattle.std.specs.Prelude.{◌≡◌, [], ◌∷◌, IfOk, OnOk};
 ghost use Rattle.cap_machine.specs.Steps.{step};
 ghost use Rattle.cap_machine.specs.History.{ended};
 ghost use Rattle.cap_machine.specs.Check.{said};
-ghost use Rattle.cap_machine.specs.State.{start_state, with_listed};
+ghost use Rattle.cap_trace.specs.Entry.{IsFd};
+ghost use Rattle.std.specs.List.{All};
+ghost use Rattle.cap_machine.specs.State.{start_state, with_cells, with_listed};
 
 use crate::cell::{Cell, Mode, Profile};
 use crate::checking::take_line;
@@ -81,6 +83,36 @@ impl Machine {
         self.table.apply_line(profile, line)
     }
 
+    /// Gives a process this mode, these cells where they are listed, and another one for all its other descriptors. Of a
+    /// descriptor that is listed twice the last cell counts. What is known of all other processes stays.
+    ///
+    /// No descriptor may be above [`cap_trace::LARGEST_FD`]. `NoMemory` when out of memory. What the machine then knows
+    /// isn't promised: drop it.
+    pub fn put(
+        &mut self,
+        pid: Pid,
+        mode: Mode,
+        rest: Cell,
+        cells: &[(Fd, Cell)],
+    ) -> Result<(), NoMemory>
+        requires fds { All (λ entry. IsFd entry.0) cells.now }
+        ensures { OnOk result (start_state self.new ≡ with_listed (start_state self.old) pid mode rest cells.now) }
+    {
+        self.table.add(pid, mode, rest, cells)
+    }
+
+    /// Gives a process this mode, and these cells where they are listed. Of a descriptor that is listed twice the last
+    /// cell counts. What is known of its other descriptors, and of all other processes, stays.
+    ///
+    /// No descriptor may be above [`cap_trace::LARGEST_FD`]. `NoMemory` when out of memory. What the machine then knows
+    /// isn't promised: drop it.
+    pub fn set(&mut self, pid: Pid, mode: Mode, cells: &[(Fd, Cell)]) -> Result<(), NoMemory>
+        requires fds { All (λ entry. IsFd entry.0) cells.now }
+        ensures { OnOk result (start_state self.new ≡ with_cells (start_state self.old) pid mode cells.now) }
+    {
+        self.table.set(pid, mode, cells)
+    }
+
     /// Forgets a process: nothing is known of it from now on. What is known of all others stays.
     ///
     /// `NoMemory` when out of memory. What the machine then knows isn't promised: drop it.
@@ -88,6 +120,9 @@ impl Machine {
         ensures { OnOk result (start_state self.new
             ≡ with_listed (start_state self.old) pid Mode.Unsure Cell.Unknown []) }
     {
+        if !self.table.knows(pid) {
+            return Ok(());
+        }
         self.table.forget(pid, Mode::Unsure)
     }
 

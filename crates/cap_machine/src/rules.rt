@@ -1,10 +1,11 @@
 //! The rule of a line.
 
-ghost use Rattle.std.specs.Prelude.{◌≡◌, ℕ};
+ghost use Rattle.std.specs.Prelude.{true, ◌≡◌, ℕ};
 ghost use Rattle.cap_machine.specs.Rule.{requirement};
 ghost use Rattle.cap_machine.specs.Steps.{step};
 ghost use Rattle.cap_machine.specs.Touch.{touch, turn};
-ghost use Rattle.cap_machine.specs.Effect.{effect_touch, effect_turn};
+ghost use Rattle.cap_machine.specs.Effect.{IsWithin, effect_touch, effect_turn, is_on_table};
+ghost use Rattle.cap_machine.specs.Named.{is_table_step};
 
 use crate::cell::Profile;
 use crate::effects::effect_of_line;
@@ -23,6 +24,10 @@ pub fn rule_of<'a>(profile: Profile, line: &LineRef<'a>) -> Rule<'a>
     // The effect does to each cell and to each mode what the line does.
     ensures cells { (p f : ℕ) → effect_touch result.effect line.now.pid p f ≡ touch (step profile line.now) p f }
     ensures modes { (p : ℕ) → effect_turn result.effect line.now.pid p ≡ turn (step profile line.now) p }
+    // No descriptor that it writes, or closes from, is above the largest.
+    ensures within { IsWithin result.effect }
+    // It hands a table of cells on, or closes all from a descriptor on, only for a call that may do that.
+    ensures tables { is_on_table result.effect ≡ true → is_table_step (step profile line.now) ≡ true }
 {
     Rule {
         requirement: requirement_of_line(line),

@@ -1,11 +1,12 @@
 //! The known processes, going forward: the meaning of a table is what its look-ups answer.
 
-ghost use Rattle.std.specs.Prelude.{◌≡◌, ℕ, [], None, IfOk, IfSome, OnOk, OnErr, ◌==◌, if◌then◌else◌};
+ghost use Rattle.std.specs.Prelude.{◌≡◌, ℕ, [], None, false, IfOk, IfSome, OnOk, OnErr, ◌==◌, if◌then◌else◌};
 ghost use Rattle.std.specs.List.{All};
 ghost use Rattle.std.specs.Option.{option_copied, option_map_or};
 ghost use Rattle.std.specs.Vec.{vec_len};
 ghost use Rattle.cap_trace.specs.Entry.{IsFd};
-ghost use Rattle.cap_machine.specs.State.{usual, listed_cell, with_listed};
+ghost use Rattle.cap_machine.specs.State.{usual, listed_cell, with_cells, with_listed};
+ghost use Rattle.cap_machine.specs.Code.Cells.{cell_in_cells};
 ghost use Rattle.cap_machine.specs.Check.{findings_of};
 ghost use Rattle.cap_machine.specs.Effect.{own_cell, own_mode, IsOwn, IsWithin};
 ghost use Rattle.cap_machine.specs.Code.Table.{cell_in, place_in, found, cell_of, mode_of, state_of, Keeps, StandsAt};
@@ -20,6 +21,18 @@ use crate::verdict::Verdict;
 use cap_rights::{NoMemory, RightSet};
 use cap_trace::{Fd, Pid, fds_of};
 use std::alloc::{AllocError, Global};
+
+/// Writes these cells one after the other.
+fn write_all(cells: &mut Cells, listed: &[(Fd, Cell)]) -> Result<(), NoMemory>
+    requires { All (λ entry. IsFd entry.0) listed.now }
+    ensures { OnOk result
+        ((f : ℕ) → cell_in_cells cells.new f ≡ listed_cell (cell_in_cells cells.old f) listed.now f) }
+{
+    for (fd, cell) in listed {
+        cells.write(*fd, *cell)?;
+    }
+    Ok(())
+}
 
 /// What is known of a process: its mode, and its cells. A clone shares the cells until one of the two writes one.
 #[derive(Drop)]
@@ -55,10 +68,20 @@ impl Process {
         ensures pid { IfOk result (λ new. new.pid ≡ pid) }
     {
         let mut cells = Cells::all(alloc, rest)?;
-        for (fd, cell) in listed {
-            cells.write(*fd, *cell)?;
-        }
+        write_all(&mut cells, listed)?;
         Ok(Process { pid, mode, cells })
+    }
+
+    /// Gives it this mode, and writes these cells one after the other.
+    fn set(&mut self, mode: Mode, listed: &[(Fd, Cell)]) -> Result<(), NoMemory>
+        requires { All (λ entry. IsFd entry.0) listed.now }
+        ensures cells { OnOk result
+            ((f : ℕ) → cell_in self.new f ≡ listed_cell (cell_in self.old f) listed.now f) }
+        ensures mode { OnOk result (self.new.mode ≡ mode) }
+        ensures pid { OnOk result (self.new.pid ≡ self.old.pid) }
+    {
+        self.mode = mode;
+        write_all(&mut self.cells, listed)
     }
 
     /// What an effect of a line of its own does to it.
@@ -326,6 +349,24 @@ impl Table {
     {
         let process = Process::listed(self.alloc, pid, mode, rest, cells)?;
         self.put(process)
+    }
+
+    /// Gives a process this mode, and writes these cells of it one after the other.
+    pub(crate) fn set(&mut self, pid: Pid, mode: Mode, cells: &[(Fd, Cell)]) -> Result<(), NoMemory>
+        requires { All (λ entry. IsFd entry.0) cells.now }
+        ensures { OnOk result (Keeps self.new (with_cells (state_of self.old) pid mode cells.now)) }
+    {
+        let place = self.enter(pid)?;
+        let process = &mut self.processes[place];
+        process.set(mode, cells)?;
+        Ok(())
+    }
+
+    /// Whether something is known of a process.
+    pub(crate) fn knows(&self, pid: Pid) -> bool
+        ensures { result ≡ false → found self.now pid ≡ None }
+    {
+        self.place_of(pid).is_some()
     }
 
     /// Writes one cell.

@@ -9,9 +9,8 @@ use cap_session::{Refused, Session, StartFault, parse_start};
 use std::alloc::Global;
 use std::test::Fail;
 
-/// The report from the usual start, and those of ranges.
-static REPORTS: [(Query, &str); 3] = [
-    (Query::Report, REPORT),
+/// Reports of ranges.
+static REPORTS: [(Query, &str); 2] = [
     (
         Query::Range(5, 7),
         "5 100 write missing 3 CAP_WRITE\nfindings 1\n",
@@ -36,12 +35,12 @@ pub fn reports_from(session: &Session, start: &Start) -> Result<bool, NoMemory> 
 /// The start has CAP_READ on descriptor 0.
 #[test]
 fn report_from_refused(rt: HostRuntime) -> Result<(), Fail> {
-    let session = session_of(rt.alloc())?;
+    let mut session = session_of(rt.alloc())?;
     let is_right = match start_of(rt.alloc(), CELLS) {
         Ok(start) => {
             let is_reported = is_answered(rt.alloc(), &Call::ReportFrom(&session, &start));
             drop(start);
-            Ok(is_reported && is_at(&session, 8, REPORT))
+            Ok(is_reported && is_at(&mut session, 8, REPORT))
         }
         Err(fail) => Err(fail),
     };

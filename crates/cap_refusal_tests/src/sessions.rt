@@ -49,7 +49,7 @@ fn with_session<F: FnOnce(Global, &mut Session) -> Result<(), Fail>>(
 }
 
 /// Whether a session has so many lines and this report, and memory for it.
-pub fn is_at(session: &Session, count: usize, report: &str) -> bool {
+pub fn is_at(session: &mut Session, count: usize, report: &str) -> bool {
     match &session.report() {
         Ok(text) => text.as_slice() == report.as_bytes() && session.count() == count,
         Err(_) => false,
@@ -66,8 +66,8 @@ fn session_new_refused(rt: HostRuntime) -> Result<(), Fail> {
         first
     };
     let is_new = match session {
-        Ok(session) => {
-            let is_new = is_at(&session, 0, "findings 0\n");
+        Ok(mut session) => {
+            let is_new = is_at(&mut session, 0, "findings 0\n");
             drop(session);
             is_new
         }
@@ -260,9 +260,56 @@ fn report_after_refused(rt: HostRuntime) -> Result<(), Fail> {
     with_session(rt.alloc(), report_one)
 }
 
+/// Whether this is answered.
+fn is_text(given: &Result<Vec<u8>, Refused>, text: &str) -> bool {
+    match given {
+        Ok(given) => given.as_slice() == text.as_bytes(),
+        Err(_) => false,
+    }
+}
+
+/// Asks for the report, in a second call where the first lacks memory. Where there is none to keep it, it is given.
+fn report_all(alloc: Global, session: &mut Session) -> Result<(), Fail> {
+    Mark::Begin.set(alloc);
+    let mut given = session.report();
+    if lacked(alloc, given.is_err()) {
+        given = session.report();
+    }
+    right(alloc, is_text(&given, REPORT), "the trace is reported")
+}
+
+#[test]
+fn report_refused(rt: HostRuntime) -> Result<(), Fail> {
+    with_session(rt.alloc(), report_all)
+}
+
+/// What changes where the limit is taken out. The other finding moves.
+const CHANGES: &str = "- 5 100 write missing 3 CAP_WRITE\nfindings 1\n";
+
+/// Asks what changed, in a second call where the first lacks memory. A report is kept before, unless there is no memory for
+/// that.
+fn change_one(alloc: Global, session: &mut Session) -> Result<(), Fail> {
+    let is_kept = is_at(session, 8, REPORT);
+    session.delete(2)?;
+    Mark::Begin.set(alloc);
+    let mut given = session.changes();
+    if lacked(alloc, given.is_err()) {
+        given = session.changes();
+    }
+    right(
+        alloc,
+        is_kept && is_text(&given, CHANGES),
+        "what changed is told",
+    )
+}
+
+#[test]
+fn changes_refused(rt: HostRuntime) -> Result<(), Fail> {
+    with_session(rt.alloc(), change_one)
+}
+
 /// What is asked of a session.
 pub enum Query {
-    Report,
     Range(usize, usize),
     Show(usize),
     /// What a line with findings rests on.
@@ -274,7 +321,6 @@ pub enum Query {
 /// What a session answers, from this start where it takes one. No line that it explains is clean.
 fn asked(session: &Session, start: &Start, query: &Query) -> Result<Vec<u8>, Refused> {
     match query {
-        Query::Report => session.report(),
         Query::Range(first, last) => session.report_range(*first, *last),
         Query::Show(position) => session.show(*position),
         Query::Explain(position) => match session.explain(*position, start)? {
@@ -302,7 +348,7 @@ pub fn answers_query(
 /// Asks each of those: this is the answer, and the session is as it was, with this report.
 fn ask_all(
     alloc: Global,
-    session: &Session,
+    session: &mut Session,
     report: &str,
     queries: &[(Query, &'static str)],
 ) -> Result<(), Fail> {
@@ -321,8 +367,8 @@ pub fn ask_each(
     report: &str,
     queries: &[(Query, &'static str)],
 ) -> Result<(), Fail> {
-    let session = session_with(alloc, trace)?;
-    let result = ask_all(alloc, &session, report, queries);
+    let mut session = session_with(alloc, trace)?;
+    let result = ask_all(alloc, &mut session, report, queries);
     drop(session);
     result
 }

@@ -1,6 +1,6 @@
 -- The text of findings, one after the other; and whether there are any.
 use Rattle.std.proofs.Common.{◌≡◌, ℕ, ◌+◌, ◌-◌, ◌<◌, Bool, true, false, not, List, [], ◌∷◌, ◌++◌, length, take, get_or}
-use Rattle.std.proofs.Common.{refl, sym, ◌∙◌, ap, ◌≤◌, IsTrue, ◌↔◌}
+use Rattle.std.proofs.Common.{append_assoc, refl, sym, ◌∙◌, ap, ◌≤◌, IsTrue, ◌↔◌}
 use Rattle.std.specs.Prelude.{Some, slice_get}
 use Rattle.std.specs.List.{flat_map}
 use Rattle.std.proofs.lemmas.List.{take_more, append-nil}
@@ -16,20 +16,28 @@ use Rattle.cap_summary.specs.Asks.{has_any}
 use Rattle.cap_summary.specs.Positions.{is_at, within}
 use Rattle.cap_session.specs.Session.{StandWithin}
 
+-- the lines of findings, each with these bytes before it
+abbrev lines_about : List ℕ → List Step → List Found → List ℕ
+lines_about before shared = flat_map (λ one. before ++ report_line shared one)
+
 -- the text of one finding more
-pub text_more : (shared : List Step) (all : List Found) (i : ℕ) (x : Found) (s : Step) (text more : List ℕ) →
-    text ≡ flat_map (report_line shared) (take i all) → i < length all → x ≡ get_or all i x →
-    slice_get shared (x.at - 1) ≡ Some s → more ≡ text ++ finding_line s.line x
-    → more ≡ flat_map (report_line shared) (take (i + 1) all)
-text_more shared all i x s text more so lt at stands put =
-    let line : List Found → List ℕ = flat_map (report_line shared) in
+pub text_more : (before : List ℕ) (shared : List Step) (all : List Found) (i : ℕ) (x : Found) (s : Step)
+    (start text mid more : List ℕ) → text ≡ start ++ lines_about before shared (take i all) → i < length all
+    → x ≡ get_or all i x → slice_get shared (x.at - 1) ≡ Some s → mid ≡ text ++ before
+    → more ≡ mid ++ finding_line s.line x → more ≡ start ++ lines_about before shared (take (i + 1) all)
+text_more before shared all i x s start text mid more so lt at stands begun put =
+    let line : List Found → List ℕ = lines_about before shared in
     let next : take (i + 1) all ≡ take i all ++ x ∷ [] =
     take_more all i x lt ∙ ap (λ (y : Found). take i all ++ y ∷ []) (sym at) in
-    let here : report_line shared x ≡ finding_line s.line x = ap (λ l. line_about l x) stands in
-    let one : line (x ∷ []) ≡ finding_line s.line x = append-nil (report_line shared x) ∙ here in
-    put ∙ ap (λ (l : List ℕ). l ++ finding_line s.line x) so
-    ∙ ap (λ (l : List ℕ). line (take i all) ++ l) (sym one)
-    ∙ sym (flat_map-append (report_line shared) (take i all) (x ∷ [])) ∙ ap line (sym next)
+    let here : before ++ report_line shared x ≡ before ++ finding_line s.line x =
+    ap (λ l. before ++ line_about l x) stands in
+    let one : line (x ∷ []) ≡ before ++ finding_line s.line x = append-nil (before ++ report_line shared x) ∙ here in
+    put ∙ ap (λ (l : List ℕ). l ++ finding_line s.line x) begun ∙ append_assoc text before (finding_line s.line x)
+    ∙ ap (λ (l : List ℕ). l ++ (before ++ finding_line s.line x)) so
+    ∙ append_assoc start (line (take i all)) (before ++ finding_line s.line x)
+    ∙ ap (λ (l : List ℕ). start ++ (line (take i all) ++ l)) (sym one)
+    ∙ ap (λ (l : List ℕ). start ++ l)
+    (sym (flat_map-append (λ one. before ++ report_line shared one) (take i all) (x ∷ [])) ∙ ap line (sym next))
 
 -- findings stand at positions of the trace, and so do those of a range
 pub stand_within : (s : State) (shared : List Step) → StandWithin (length shared) (check s shared)

@@ -8,7 +8,7 @@ use Rattle.std.proofs.lemmas.Bool.{cases_lt}
 use Rattle.cap_session.specs.Devices.{SinkState}
 use Rattle.cap_session.specs.Lines.{whole_lines, last_piece}
 use Rattle.cap_session.specs.Scripts.{Answers, Run, Replied, Broken, long_piece, script_lines, tail, due}
-use Rattle.cap_trace.specs.Entry.{Entry}
+use Rattle.cap_session.specs.Replies.{ScriptState}
 use Rattle.cap_machine.specs.declared.cell.Profile.{Profile}
 use Rattle.cap_session.proofs.Cuts.{whole_lines-append, last_piece-append}
 use Rattle.cap_session.proofs.Runs.{is_long, is_short, answers_cut}
@@ -17,7 +17,7 @@ use Rattle.cap_session.proofs.Runs.{is_long, is_short, answers_cut}
 abbrev pub cut : List ℕ → List ℕ
 cut line = take 1057 line
 
-pub answers_uncut : (profile : Profile) (t : List Entry) (line text : List ℕ) (u : List Entry)
+pub answers_uncut : (profile : Profile) (t : ScriptState) (line text : List ℕ) (u : ScriptState)
     → Answers profile t line text u → Answers profile t (take 1057 line) text u
 answers_uncut profile t line text u is =
     elim (cases_lt 1056 (length line)) [
@@ -27,7 +27,7 @@ answers_uncut profile t line text u is =
       | inr short ↦ rw (take_all 1057 line (omega arith)) is
     ]
 
-pub run_same : (profile : Profile) (t : List Entry) (xs ys : List (List ℕ)) (text : List ℕ) (u : List Entry)
+pub run_same : (profile : Profile) (t : ScriptState) (xs ys : List (List ℕ)) (text : List ℕ) (u : ScriptState)
     → map cut xs ≡ map cut ys → Run profile t xs text u → Run profile t ys text u
 run_same profile t [] [] text u same run = run
 run_same profile t [] (y ∷ ys) text u same run = cc
@@ -123,7 +123,7 @@ pieces_same g p =
     ∙ ap (map cut) (sym (append_assoc before (whole_lines last p) (long_piece (last_piece last p))))
     ∙ rw (whole_lines-append [] g p, last_piece-append [] g p) refl
 
-pub replied_same : (profile : Profile) (t : List Entry) (w0 w1 : SinkState) (xs ys : List (List ℕ)) (u : List Entry)
+pub replied_same : (profile : Profile) (t : ScriptState) (w0 w1 : SinkState) (xs ys : List (List ℕ)) (u : ScriptState)
     → map cut xs ≡ map cut ys → Replied profile t w0 w1 xs u → Replied profile t w0 w1 ys u
 replied_same profile t w0 w1 xs ys u same r = record {
   text = r.text;
@@ -131,7 +131,7 @@ replied_same profile t w0 w1 xs ys u same r = record {
   wrote = r.wrote;
 }
 
-pub broken_same : (profile : Profile) (t : List Entry) (w0 w1 : SinkState) (xs ys : List (List ℕ))
+pub broken_same : (profile : Profile) (t : ScriptState) (w0 w1 : SinkState) (xs ys : List (List ℕ))
     → map cut xs ≡ map cut ys → Broken profile t w0 w1 xs → Broken profile t w0 w1 ys
 broken_same profile t w0 w1 xs ys same b =
     let n : ℕ = length b.first in
@@ -143,7 +143,7 @@ broken_same profile t w0 w1 xs ys same b =
       others = drop n ys;
       cut = sym (take-append-drop n ys);
       text = b.text;
-      trace = b.trace;
-      run = run_same profile t b.first (take n ys) b.text b.trace cuts b.run;
+      left = b.left;
+      run = run_same profile t b.first (take n ys) b.text b.left cuts b.run;
       wrote = b.wrote;
     }

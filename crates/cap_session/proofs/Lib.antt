@@ -54,3 +54,17 @@ pub mod LimitFds
 pub mod MakerFacts
 pub mod LimitFacts
 pub mod TextsSpelled
+pub mod InRun
+pub mod KeptHits
+pub mod Rising
+pub mod RunCuts
+pub mod RunEdits
+pub mod RunJoins
+pub mod RunOrder
+pub mod RunSpread
+pub mod SameFindings
+pub mod WalkRuns
+pub mod StoodThere
+pub mod CheckRises
+pub mod LastReports
+pub mod KeptRunsOf

@@ -2,6 +2,7 @@
 use Rattle.std.proofs.Common.{◌≡◌, ℕ, List, refl, inr, subst}
 use Rattle.std.specs.Prelude.{Err, Ok, Result}
 use Rattle.cap_trace.specs.Entry.{Entry}
+use Rattle.cap_session.specs.Replies.{ScriptState, begun}
 use Rattle.cap_machine.specs.declared.cell.Profile.{Profile}
 use Rattle.cap_session.specs.Devices.{SourceState, SinkState}
 use Rattle.cap_session.specs.Outcome.{outcome_of, read_faults}
@@ -16,7 +17,7 @@ use Rattle.cap_session.specs.declared.outcome.Outcome.TheVariants.{Clean, Findin
 use Rattle.cap_session.specs.declared.outcome.Outcome.TheVariants.{ReadFault, WriteFault, TooLong}
 use Rattle.cap_session.proofs.AnswersTrace.{first_taken}
 
-module _ (profile : Profile) (turns : ℕ) (s0 s1 : SourceState) (w0 w1 : SinkState) (t u : List Entry)
+module _ (profile : Profile) (turns : ℕ) (s0 s1 : SourceState) (w0 w1 : SinkState) (t u : ScriptState)
     {T : Type 0} where
   -- an outcome of replies that says what their answer says
   replies : (x : Result T StopReason) (o : Outcome) → (r : RepliesToAll profile turns s0 s1 w0 w1 t u x)
@@ -32,7 +33,7 @@ module _ (profile : Profile) (turns : ℕ) (s0 s1 : SourceState) (w0 w1 : SinkSt
   }
 
   -- the script was replied to, or that stopped
-  pub replied : (x : T) (o : Outcome) → RepliesToAll profile turns s0 s1 w0 w1 t u (Ok x) → IsOutcome profile u o
+  pub replied : (x : T) (o : Outcome) → RepliesToAll profile turns s0 s1 w0 w1 t u (Ok x) → IsOutcome profile u.trace o
       → Replies profile turns s0 s1 w0 w1 t o
   replied x Clean r is = replies (Ok x) Clean r refl (r.answer.0, r.answer.1, is)
   replied x Findings r is = replies (Ok x) Findings r refl (r.answer.0, r.answer.1, is)
@@ -55,8 +56,8 @@ module _ (profile : Profile) (turns : ℕ) (s0 s1 : SourceState) (w0 w1 : SinkSt
 pub script_taken : {T : Type 0} (profile : Profile) (holds : T → List Entry → Type 0) (turns : ℕ)
     (r0 r1 s0 s1 : SourceState) (w0 w1 : SinkState) (x : T) (p : Profile) (t : List Entry) (o : Outcome)
     → Reads trace trace_so_far holds turns r0 r1 (Ok x) → ((known : List Entry) → holds x known → (p ≡ profile) × (t ≡ known))
-    → Replies p turns s0 s1 w0 w1 t o → EditStreams profile turns r0 r1 s0 s1 w0 w1 o
+    → Replies p turns s0 s1 w0 w1 (begun t) o → EditStreams profile turns r0 r1 s0 s1 w0 w1 o
 script_taken profile holds turns r0 r1 s0 s1 w0 w1 x p t o r is script =
     let kept = is r.answer.1.0 r.answer.1.2 in
-    inr (first_taken of_trace holds turns r0 r1 x (λ (entries : List Entry). Replies profile turns s0 s1 w0 w1 entries o) t
-    r (λ known here. (is known here).1) (subst (λ (q : Profile). Replies q turns s0 s1 w0 w1 t o) kept.0 script))
+    inr (first_taken of_trace holds turns r0 r1 x (λ (entries : List Entry). Replies profile turns s0 s1 w0 w1 (begun entries) o) t
+    r (λ known here. (is known here).1) (subst (λ (q : Profile). Replies q turns s0 s1 w0 w1 (begun t) o) kept.0 script))

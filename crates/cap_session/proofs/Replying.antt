@@ -24,14 +24,14 @@ pub script_begins : (start : Scripting) (w : SinkState) → start.held ≡ [] �
 unfolding whole_lines last_piece
 script_begins start w begins = record {
   profile = refl;
-  replied = replied_none start.profile start.trace w;
+  replied = replied_none start.profile start.state w;
   held = begins;
   failure = refl;
 }
 
 -- a piece was replied to
 pub script_on : (start s t : Scripting) (w0 w1 w2 : SinkState) (given piece : List ℕ) → TookScript start s w0 w1 given →
-    Replied s.profile s.trace w1 w2 (due s.held piece) t.trace → t.profile ≡ s.profile
+    Replied s.profile s.state w1 w2 (due s.held piece) t.state → t.profile ≡ s.profile
     → t.held ≡ take 1057 (last_piece s.held piece) → TookScript start t w0 w2 (given ++ piece)
 script_on start s t w0 w1 w2 given piece went replied stays held = record {
   profile = stays ∙ went.profile;
@@ -48,7 +48,7 @@ script_on start s t w0 w1 w2 given piece went replied stays held = record {
 -- the writer failed in the replies to a piece
 pub script_broken : (start s t : Scripting) (w0 w1 w2 : SinkState) (given piece : List ℕ)
     → TookScript start s w0 w1 given →
-    Broken s.profile s.trace w1 w2 (due s.held piece) → t.profile ≡ s.profile
+    Broken s.profile s.state w1 w2 (due s.held piece) → t.profile ≡ s.profile
     → StoppedScript start t w0 w2 (given ++ piece) stops.WriteFault
 script_broken start s t w0 w1 w2 given piece went broke stays = record {
   is = refl;
@@ -72,7 +72,7 @@ end_same g =
 
 -- the end was replied to
 pub script_ends : (start s t : Scripting) (w0 w1 w2 : SinkState) (given : List ℕ) → TookScript start s w0 w1 given →
-    Replied s.profile s.trace w1 w2 (due_end s.held) t.trace → t.profile ≡ s.profile
+    Replied s.profile s.state w1 w2 (due_end s.held) t.state → t.profile ≡ s.profile
     → EndedScript start t w0 w2 given (Ok tt)
 script_ends start s t w0 w1 w2 given went replied stays = record {
   profile = stays ∙ went.profile;
@@ -84,7 +84,7 @@ script_ends start s t w0 w1 w2 given went replied stays = record {
 -- the writer failed in that
 pub script_broken_at_end : (start s t : Scripting) (w0 w1 w2 : SinkState) (given : List ℕ)
     → TookScript start s w0 w1 given →
-    Broken s.profile s.trace w1 w2 (due_end s.held) → t.profile ≡ s.profile
+    Broken s.profile s.state w1 w2 (due_end s.held) → t.profile ≡ s.profile
     → EndedScript start t w0 w2 given (Err stops.WriteFault)
 script_broken_at_end start s t w0 w1 w2 given went broke stays = record {
   profile = stays ∙ went.profile;
@@ -113,13 +113,13 @@ module _ (start t : Scripting) (w0 w1 : SinkState) (turns : ℕ) (s0 s1 : Source
 
   replies : (result : Result (Unit {0}) StopReason) (given : List ℕ) → Consumes s0.bytes s1.bytes given
       → s1.calls ≤ s0.calls + turns → s1.failures ≡ s0.failures + faults result
-      → RepliesUntil start.profile turns s0 s1 w0 w1 given start.trace t.trace result
-      → RepliesToAll start.profile turns s0 s1 w0 w1 start.trace t.trace result
+      → RepliesUntil start.profile turns s0 s1 w0 w1 given start.state t.state result
+      → RepliesToAll start.profile turns s0 s1 w0 w1 start.state t.state result
   replies result given read calls failures answer =
       record { given = given; read = read; calls = calls; failures = failures; answer = answer }
 
   pub all_replied : (result : Result (Unit {0}) StopReason) → GivesScript result
-      → RepliesToAll start.profile turns s0 s1 w0 w1 start.trace t.trace result
+      → RepliesToAll start.profile turns s0 s1 w0 w1 start.state t.state result
   all_replied (Ok u) gives = elim gives.answer [
     | inl (inl f) ↦ let no = f.is in absurd cc
     | inl (inr u) ↦ let no = u.is in absurd cc

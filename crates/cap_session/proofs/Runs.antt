@@ -12,7 +12,7 @@ use Rattle.cap_session.specs.Lines.{whole_lines, last_piece}
 use Rattle.cap_session.specs.Trace.{is_skipped}
 use Rattle.cap_session.specs.Scripts.{Commands, Answers, Run, Replied, Broken, long_piece, script_lines, tail, due}
 use Rattle.cap_session.specs.Scripts.{due_line, due_piece, Scripting}
-use Rattle.cap_trace.specs.Entry.{Entry}
+use Rattle.cap_session.specs.Replies.{ScriptState}
 use Rattle.cap_machine.specs.declared.cell.Profile.{Profile}
 use Rattle.cap_session.specs.Commands.{asked}
 use Rattle.cap_session.specs.Replies.{refused_text}
@@ -22,19 +22,19 @@ use Rattle.cap_session.proofs.Calls.{appends_more, appends_none}
 pub is_long : (line : List ℕ) → 1056 < length line → nat_lt 1056 (length line) ≡ true
 is_long line long = grind arith
 
-pub answers_long : (profile : Profile) (t : List Entry) (line : List ℕ) → 1056 < length line
+pub answers_long : (profile : Profile) (t : ScriptState) (line : List ℕ) → 1056 < length line
     → Answers profile t line (refused_text 1) t
 answers_long profile t line long =
     rw (is_long line long) (refl, refl)
 
-pub answers_command : (profile : Profile) (t : List Entry) (line text : List ℕ) (u : List Entry) → length line ≤ 1056
+pub answers_command : (profile : Profile) (t : ScriptState) (line text : List ℕ) (u : ScriptState) → length line ≤ 1056
     → is_skipped line ≡ false → Commands profile t (asked line) text u → Answers profile t line text u
 answers_command profile t line text u short command is =
     let no : nat_lt 1056 (length line) ≡ false = grind arith in
     rw (no, command) is
 
 -- the reply to a line that is too long rests on no byte past its 1,057th
-pub answers_cut : (profile : Profile) (t : List Entry) (line text : List ℕ) (u : List Entry)
+pub answers_cut : (profile : Profile) (t : ScriptState) (line text : List ℕ) (u : ScriptState)
     → Answers profile t (take 1057 line) text u → Answers profile t line text u
 answers_cut profile t line text u is =
     elim (cases_lt 1056 (length line)) [
@@ -44,7 +44,7 @@ answers_cut profile t line text u is =
       | inr short ↦ rw (take_all 1057 line (omega arith)) at is
     ]
 
-pub one_line : (profile : Profile) (t : List Entry) (w0 w1 : SinkState) (line text : List ℕ) (u : List Entry)
+pub one_line : (profile : Profile) (t : ScriptState) (w0 w1 : SinkState) (line text : List ℕ) (u : ScriptState)
     → Answers profile t line text u → Wrote w0 w1 text → Replied profile t w0 w1 (line ∷ []) u
 one_line profile t w0 w1 line text u is wrote = record {
   text = text;
@@ -52,23 +52,23 @@ one_line profile t w0 w1 line text u is wrote = record {
   wrote = wrote;
 }
 
-pub one_broken : (profile : Profile) (t : List Entry) (w0 w1 : SinkState) (line text : List ℕ) (u : List Entry)
+pub one_broken : (profile : Profile) (t : ScriptState) (w0 w1 : SinkState) (line text : List ℕ) (u : ScriptState)
     → Answers profile t line text u → WrotePrefix w0 w1 text → Broken profile t w0 w1 (line ∷ [])
 one_broken profile t w0 w1 line text u is wrote = record {
   first = line ∷ [];
   others = [];
   cut = refl;
   text = text;
-  trace = u;
+  left = u;
   run = (text, u, [], is, (refl, refl), sym (append-nil text));
   wrote = wrote;
 }
 
-run_on : (profile : Profile) (t : List Entry) (xs : List (List ℕ)) (text : List ℕ) (u : List Entry) (ys : List (List ℕ))
-    (more : List ℕ) (v : List Entry)
+run_on : (profile : Profile) (t : ScriptState) (xs : List (List ℕ)) (text : List ℕ) (u : ScriptState) (ys : List (List ℕ))
+    (more : List ℕ) (v : ScriptState)
     → Run profile t xs text u → Run profile u ys more v → Run profile t (xs ++ ys) (text ++ more) v
 run_on profile t [] text u ys more v first second =
-    rw first.0 (subst (λ (x : List Entry). Run profile x ys more v) first.1 second)
+    rw first.0 (subst (λ (x : ScriptState). Run profile x ys more v) first.1 second)
 run_on profile t (line ∷ xs) text u ys more v first second = (
   first.0,
   first.1,
@@ -78,14 +78,14 @@ run_on profile t (line ∷ xs) text u ys more v first second = (
   ap (λ l. l ++ more) first.5 ∙ append_assoc first.0 first.2 more,
 )
 
-pub replied_none : (profile : Profile) (t : List Entry) (w : SinkState) → Replied profile t w w [] t
+pub replied_none : (profile : Profile) (t : ScriptState) (w : SinkState) → Replied profile t w w [] t
 replied_none profile t w = record {
   text = [];
   run = (refl, refl);
   wrote = record { taken = appends_none w.taken; failures = refl; room = refl };
 }
 
-pub replied_on : (profile : Profile) (t : List Entry) (w0 w1 w2 : SinkState) (xs ys : List (List ℕ)) (u v : List Entry)
+pub replied_on : (profile : Profile) (t : ScriptState) (w0 w1 w2 : SinkState) (xs ys : List (List ℕ)) (u v : ScriptState)
     → Replied profile t w0 w1 xs u → Replied profile u w1 w2 ys v → Replied profile t w0 w2 (xs ++ ys) v
 replied_on profile t w0 w1 w2 xs ys u v first second = record {
   text = first.text ++ second.text;
@@ -97,15 +97,15 @@ replied_on profile t w0 w1 w2 xs ys u v first second = record {
   };
 }
 
-pub broken_on : (profile : Profile) (t : List Entry) (w0 w1 w2 : SinkState) (xs ys : List (List ℕ)) (u : List Entry)
+pub broken_on : (profile : Profile) (t : ScriptState) (w0 w1 w2 : SinkState) (xs ys : List (List ℕ)) (u : ScriptState)
     → Replied profile t w0 w1 xs u → Broken profile u w1 w2 ys → Broken profile t w0 w2 (xs ++ ys)
 broken_on profile t w0 w1 w2 xs ys u done broke = record {
   first = xs ++ broke.first;
   others = broke.others;
   cut = ap (λ ls. xs ++ ls) broke.cut ∙ sym (append_assoc xs broke.first broke.others);
   text = done.text ++ broke.text;
-  trace = broke.trace;
-  run = run_on profile t xs done.text u broke.first broke.text broke.trace done.run broke.run;
+  left = broke.left;
+  run = run_on profile t xs done.text u broke.first broke.text broke.left done.run broke.run;
   wrote = record {
     front = done.text ++ broke.wrote.front;
     rest = broke.wrote.rest;
@@ -116,14 +116,14 @@ broken_on profile t w0 w1 w2 xs ys u done broke = record {
   };
 }
 
-pub broken_more : (profile : Profile) (t : List Entry) (w0 w1 : SinkState) (xs ys : List (List ℕ))
+pub broken_more : (profile : Profile) (t : ScriptState) (w0 w1 : SinkState) (xs ys : List (List ℕ))
     → Broken profile t w0 w1 xs → Broken profile t w0 w1 (xs ++ ys)
 broken_more profile t w0 w1 xs ys broke = record {
   first = broke.first;
   others = broke.others ++ ys;
   cut = ap (λ ls. ls ++ ys) broke.cut ∙ append_assoc broke.first broke.others ys;
   text = broke.text;
-  trace = broke.trace;
+  left = broke.left;
   run = broke.run;
   wrote = broke.wrote;
 }
@@ -154,7 +154,7 @@ pub record Scripted (start : Scripting) (w0 : SinkState) (piece : List ℕ) (s :
     (rest : List ℕ) : Type 0 where
   pub lines : List (List ℕ)
   pub profile : s.profile ≡ start.profile
-  pub replied : Replied start.profile start.trace w0 w1 lines s.trace
+  pub replied : Replied start.profile start.state w0 w1 lines s.state
   pub same : due start.held piece ≡ lines ++ due s.held rest
   pub last : take 1057 (last_piece s.held rest) ≡ take 1057 (last_piece start.held piece)
   pub room : w1.room ≡ w0.room
@@ -163,7 +163,7 @@ pub record Scripted (start : Scripting) (w0 : SinkState) (piece : List ℕ) (s :
 -- a line was replied to
 scripted_at : (start s t : Scripting) (w0 w1 w2 : SinkState) (piece rest : List ℕ) (k : ℕ)
     → Scripted start w0 piece s w1 rest →
-    IsFirstByte (is_byte 10) rest (Some k) → Replied s.profile s.trace w1 w2 (due_line s.held (take k rest)) t.trace
+    IsFirstByte (is_byte 10) rest (Some k) → Replied s.profile s.state w1 w2 (due_line s.held (take k rest)) t.state
     → t.profile ≡ s.profile → t.held ≡ [] → Scripted start w0 piece t w2 (drop (k + 1) rest)
 scripted_at start s t w0 w1 w2 piece rest k went found replied stays empty =
     let cut : Cut s.held rest k = cut_at s.held rest k found in
@@ -181,36 +181,36 @@ scripted_at start s t w0 w1 w2 piece rest k went found replied stays empty =
 
 pub scripted_on : (start s t : Scripting) (w0 w1 w2 : SinkState) (piece rest line left : List ℕ)
     → Scripted start w0 piece s w1 rest → IsCut rest line left
-    → Replied s.profile s.trace w1 w2 (due_line s.held line) t.trace → t.profile ≡ s.profile → t.held ≡ []
+    → Replied s.profile s.state w1 w2 (due_line s.held line) t.state → t.profile ≡ s.profile → t.held ≡ []
     → Scripted start w0 piece t w2 left
 scripted_on start s t w0 w1 w2 piece rest line left went cut replied stays empty =
     subst (λ (l : List ℕ). Scripted start w0 piece t w2 l) (sym cut.leaves)
     (scripted_at start s t w0 w1 w2 piece rest (length line) went cut.first
-    (subst (λ (l : List ℕ). Replied s.profile s.trace w1 w2 (due_line s.held l) t.trace) cut.begins replied) stays empty)
+    (subst (λ (l : List ℕ). Replied s.profile s.state w1 w2 (due_line s.held l) t.state) cut.begins replied) stays empty)
 
 -- the writer failed in a reply
 pub scripted_broken : (start s : Scripting) (w0 w1 w2 : SinkState) (piece rest line left : List ℕ)
-    → Scripted start w0 piece s w1 rest → IsCut rest line left → Broken s.profile s.trace w1 w2 (due_line s.held line)
-    → Broken start.profile start.trace w0 w2 (due start.held piece)
+    → Scripted start w0 piece s w1 rest → IsCut rest line left → Broken s.profile s.state w1 w2 (due_line s.held line)
+    → Broken start.profile start.state w0 w2 (due start.held piece)
 scripted_broken start s w0 w1 w2 piece rest line left went cut broke =
     let k = length line in
-    let here : Broken s.profile s.trace w1 w2 (due_line s.held (take k rest)) =
-    subst (λ (l : List ℕ). Broken s.profile s.trace w1 w2 (due_line s.held l)) cut.begins broke in
+    let here : Broken s.profile s.state w1 w2 (due_line s.held (take k rest)) =
+    subst (λ (l : List ℕ). Broken s.profile s.state w1 w2 (due_line s.held l)) cut.begins broke in
     rw (went.same, due_cut s.held rest k cut.first) (broken_on _ _ _ _ _ _ _ _ went.replied
     (broken_more _ _ _ _ _ (due [] (drop (k + 1) rest)) (rw went.profile at here)))
 
 -- the piece was worked through
 pub scripted_last : (start s t : Scripting) (w0 w1 w2 : SinkState) (piece rest : List ℕ)
     → Scripted start w0 piece s w1 rest →
-    IsFirstByte (is_byte 10) rest None → Replied s.profile s.trace w1 w2 (due_piece s.held rest) t.trace
-    → Replied start.profile start.trace w0 w2 (due start.held piece) t.trace
+    IsFirstByte (is_byte 10) rest None → Replied s.profile s.state w1 w2 (due_piece s.held rest) t.state
+    → Replied start.profile start.state w0 w2 (due start.held piece) t.state
 scripted_last start s t w0 w1 w2 piece rest went none replied =
     rw (went.same, due_rest s.held rest none) (replied_on _ _ _ _ _ _ _ _ _ went.replied (rw went.profile at replied))
 
 pub scripted_last_broken : (start s : Scripting) (w0 w1 w2 : SinkState) (piece rest : List ℕ)
     → Scripted start w0 piece s w1 rest →
-    IsFirstByte (is_byte 10) rest None → Broken s.profile s.trace w1 w2 (due_piece s.held rest)
-    → Broken start.profile start.trace w0 w2 (due start.held piece)
+    IsFirstByte (is_byte 10) rest None → Broken s.profile s.state w1 w2 (due_piece s.held rest)
+    → Broken start.profile start.state w0 w2 (due start.held piece)
 scripted_last_broken start s w0 w1 w2 piece rest went none broke =
     rw (went.same, due_rest s.held rest none) (broken_on _ _ _ _ _ _ _ _ went.replied (rw went.profile at broke))
 
@@ -243,7 +243,7 @@ due_piece_short held bytes short =
     rw (is_short (held ++ bytes) within) (elim (nat_lt 1056 (length held)) as (λ v. cond {A = List (List ℕ)} v [] []
     ≡ []) [ true ↦ refl | false ↦ refl ])
 
-pub replied_cut : (profile : Profile) (t : List Entry) (w0 w1 : SinkState) (line : List ℕ) (u : List Entry)
+pub replied_cut : (profile : Profile) (t : ScriptState) (w0 w1 : SinkState) (line : List ℕ) (u : ScriptState)
     → Replied profile t w0 w1 (take 1057 line ∷ []) u → Replied profile t w0 w1 (line ∷ []) u
 replied_cut profile t w0 w1 line u r = record {
   text = r.text;
@@ -251,12 +251,12 @@ replied_cut profile t w0 w1 line u r = record {
   wrote = r.wrote;
 }
 
-broken_cut_from : (profile : Profile) (t : List Entry) (w0 w1 : SinkState) (line : List ℕ)
-    (first others : List (List ℕ)) (text : List ℕ) (u : List Entry) →
+broken_cut_from : (profile : Profile) (t : ScriptState) (w0 w1 : SinkState) (line : List ℕ)
+    (first others : List (List ℕ)) (text : List ℕ) (u : ScriptState) →
     take 1057 line ∷ [] ≡ first ++ others → Run profile t first text u → WrotePrefix w0 w1 text
     → Broken profile t w0 w1 (line ∷ [])
 broken_cut_from profile t w0 w1 line [] others text u cut run wrote =
-    record { first = []; others = line ∷ []; cut = refl; text = text; trace = u; run = run; wrote = wrote }
+    record { first = []; others = line ∷ []; cut = refl; text = text; left = u; run = run; wrote = wrote }
 broken_cut_from profile t w0 w1 line (x ∷ []) others text u cut run wrote =
     let same : x ≡ take 1057 line = cc in
     let is = subst (λ (l : List ℕ). Answers profile t l run.0 run.1) same run.3 in
@@ -265,13 +265,13 @@ broken_cut_from profile t w0 w1 line (x ∷ []) others text u cut run wrote =
       others = [];
       cut = refl;
       text = text;
-      trace = u;
+      left = u;
       run = (run.0, run.1, run.2, answers_cut profile t line run.0 run.1 is, run.4, run.5);
       wrote = wrote;
     }
 broken_cut_from profile t w0 w1 line (x ∷ y ∷ more) others text u cut run wrote = cc
 
-pub broken_cut : (profile : Profile) (t : List Entry) (w0 w1 : SinkState) (line : List ℕ)
+pub broken_cut : (profile : Profile) (t : ScriptState) (w0 w1 : SinkState) (line : List ℕ)
     → Broken profile t w0 w1 (take 1057 line ∷ []) → Broken profile t w0 w1 (line ∷ [])
 broken_cut profile t w0 w1 line b =
-    broken_cut_from profile t w0 w1 line b.first b.others b.text b.trace b.cut b.run b.wrote
+    broken_cut_from profile t w0 w1 line b.first b.others b.text b.left b.cut b.run b.wrote

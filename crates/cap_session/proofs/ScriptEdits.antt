@@ -9,9 +9,9 @@ use Rattle.cap_session.specs.declared.edit.Edit.TheVariants.{Insert, Delete, Rep
 use Rattle.cap_session.specs.declared.refused.Refused.{Refused}
 use Rattle.cap_session.specs.Edits.{edited, trace_after, after}
 use Rattle.cap_session.specs.Commands.{Asked, asked, insert_line, replace_line, delete_line, show_line, count_lines}
-use Rattle.cap_session.specs.Commands.{report_all, report_lines, unknown, edit_asked}
+use Rattle.cap_session.specs.Commands.{report_all, report_lines, tell_changes, unknown, edit_asked}
 use Rattle.cap_session.specs.Trace.{is_skipped}
-use Rattle.cap_session.specs.Replies.{shown_done, shown, ranged, line_feed}
+use Rattle.cap_session.specs.Replies.{ScriptState, shown_done, shown, ranged, line_feed}
 use Rattle.cap_session.specs.Limits.{most_lines}
 use Rattle.cap_session.specs.Scripts.{RepliesTo, Commands, Answers, Run}
 use Rattle.cap_session.specs.ScriptLaws.{Asks, AsksNone, AreEditsOf, LeavesEdits, ScriptLeavesWhatEditsGive}
@@ -21,12 +21,15 @@ use Rattle.cap_session.proofs.Scripted.{edit_replied, reported}
 -- what asks for no edit leaves the trace
 record Passes (profile : Profile) (ask : Asked) : Type 0 where
   none : (edit : Edit) → ask ≡ edit_asked edit → ⊥
-  keeps : (t u : List Entry) (text : List ℕ) → Commands profile t ask text u → u ≡ t
+  keeps : (t u : ScriptState) (text : List ℕ) → Commands profile t ask text u → u.trace ≡ t.trace
 
-shown_keeps : (t u : List Entry) (end text : List ℕ) (r : Result (List ℕ) Refused)
-    → RepliesTo t (shown_done t end r) text u → u ≡ t
-shown_keeps t u end text (Ok shown) is = is.1
-shown_keeps t u end text (Err e) is = is.1
+same_trace : (t u : ScriptState) → u ≡ t → u.trace ≡ t.trace
+same_trace t u same = ap (λ (s : ScriptState). s.trace) same
+
+shown_keeps : (t u : ScriptState) (end text : List ℕ) (r : Result (List ℕ) Refused)
+    → RepliesTo t (shown_done t.trace end r) text u → u.trace ≡ t.trace
+shown_keeps t u end text (Ok shown) is = is.trace
+shown_keeps t u end text (Err e) is = same_trace t u is.1
 
 is_edit : Asked → Bool
 is_edit (insert_line k line) = true
@@ -41,7 +44,7 @@ edit_is (Delete k) = refl
 edit_is (Replace k line) = refl
 
 passes : (profile : Profile) (ask : Asked) → is_edit ask ≡ false
-    → ((t u : List Entry) (text : List ℕ) → Commands profile t ask text u → u ≡ t) → Passes profile ask
+    → ((t u : ScriptState) (text : List ℕ) → Commands profile t ask text u → u.trace ≡ t.trace) → Passes profile ask
 passes profile ask asks_none keeps =
     record { none = λ edit is. let made = sym asks_none ∙ ap is_edit is ∙ edit_is edit in cc; keeps = keeps }
 
@@ -51,19 +54,29 @@ edit_or_not profile (insert_line k line) = inl (Insert k (record { ref_ptr = (0,
 edit_or_not profile (replace_line k line) = inl (Replace k (record { ref_ptr = (0, 0); now = line }), refl)
 edit_or_not profile (delete_line k) = inl (Delete k, refl)
 edit_or_not profile (show_line k) = inr (passes profile (show_line k) refl (λ t u text is. elim is [
-  | inl seen ↦ shown_keeps t u line_feed text (shown t k) seen
-  | inr ran_out ↦ ran_out.3
+  | inl seen ↦ shown_keeps t u line_feed text (shown t.trace k) seen
+  | inr ran_out ↦ same_trace t u ran_out.3
 ]))
-edit_or_not profile count_lines =
-    inr (passes profile count_lines refl (λ t u text is. elim is [ inl seen ↦ seen.1 | inr ran_out ↦ ran_out.3 ]))
-edit_or_not profile report_all =
-    inr (passes profile report_all refl (λ t u text is. elim is [ inl seen ↦ seen.1 | inr ran_out ↦ ran_out.3 ]))
+edit_or_not profile count_lines = inr (passes profile count_lines refl (λ t u text is. elim is [
+  | inl seen ↦ seen.trace
+  | inr ran_out ↦ same_trace t u ran_out.3
+]))
+edit_or_not profile report_all = inr (passes profile report_all refl (λ t u text is. elim is [
+  | inl seen ↦ seen.trace
+  | inr ran_out ↦ same_trace t u ran_out.3
+]))
+edit_or_not profile tell_changes = inr (passes profile tell_changes refl (λ t u text is. elim is [
+  | inl seen ↦ seen.trace
+  | inr ran_out ↦ same_trace t u ran_out.3
+]))
 edit_or_not profile (report_lines a b) = inr (passes profile (report_lines a b) refl (λ t u text is. elim is [
-  | inl seen ↦ shown_keeps t u [] text (ranged profile t a b) seen
-  | inr ran_out ↦ ran_out.3
+  | inl seen ↦ shown_keeps t u [] text (ranged profile t.trace a b) seen
+  | inr ran_out ↦ same_trace t u ran_out.3
 ]))
-edit_or_not profile unknown =
-    inr (passes profile unknown refl (λ t u text is. elim is [ inl seen ↦ seen.1 | inr ran_out ↦ ran_out.3 ]))
+edit_or_not profile unknown = inr (passes profile unknown refl (λ t u text is. elim is [
+  | inl seen ↦ same_trace t u seen.1
+  | inr ran_out ↦ same_trace t u ran_out.3
+]))
 
 -- what one line does
 record Edits (t : List Entry) (line : List ℕ) (u : List Entry) : Type 0 where
@@ -76,13 +89,14 @@ record Stays (t : List Entry) (line : List ℕ) (u : List Entry) : Type 0 where
   none : AsksNone line
   same : u ≡ t
 
-line_does : (profile : Profile) (long skipped : Bool) (t u : List Entry) (line text : List ℕ)
+line_does : (profile : Profile) (long skipped : Bool) (t u : ScriptState) (line text : List ℕ)
     → nat_lt 1056 (length line) ≡ long
-    → is_skipped line ≡ skipped → Answers profile t line text u → Edits t line u ⊎ Stays t line u
+    → is_skipped line ≡ skipped → Answers profile t line text u
+    → Edits t.trace line u.trace ⊎ Stays t.trace line u.trace
 line_does profile true skipped t u line text long is_so is =
-    inr (record { none = λ edit asks. let no = sym long ∙ asks.0 in cc; same = (rw long at is).1 })
+    inr (record { none = λ edit asks. let no = sym long ∙ asks.0 in cc; same = same_trace t u (rw long at is).1 })
 line_does profile false true t u line text long is_so is =
-    inr (record { none = λ edit asks. let no = sym is_so ∙ asks.1 in cc; same = (rw (long, is_so) at is).1 })
+    inr (record { none = λ edit asks. let no = sym is_so ∙ asks.1 in cc; same = same_trace t u (rw (long, is_so) at is).1 })
 line_does profile false false t u line text long is_so is =
     let does : Commands profile t (asked line) text u = rw (long, is_so) at is in
     elim (edit_or_not profile (asked line)) [
@@ -100,44 +114,44 @@ passed_over line lines [] none are = (none, are)
 passed_over line lines (edit ∷ edits) none are = inl (none, are)
 
 pub script_leaves_what_edits_give : ScriptLeavesWhatEditsGive
-script_leaves_what_edits_give profile trace left [] text run = record {
+script_leaves_what_edits_give profile t left [] text run = record {
   edits = [];
   asked = tt;
   ran_out = [];
   each = refl;
-  leaves = run.1;
+  leaves = same_trace t left run.1;
 }
-script_leaves_what_edits_give profile trace left (line ∷ lines) text run =
+script_leaves_what_edits_give profile t left (line ∷ lines) text run =
     let (first, mid, rest, is, more, cut) = run in
-    let others : LeavesEdits mid lines left = script_leaves_what_edits_give profile mid left lines rest more in
-    elim (line_does profile _ _ trace mid line first refl refl is) [
+    let others : LeavesEdits mid.trace lines left.trace = script_leaves_what_edits_give profile mid left lines rest more in
+    elim (line_does profile _ _ t mid line first refl refl is) [
       | inl one ↦ record {
         edits = one.edit ∷ others.edits;
         asked = inr (one.asks, others.asked);
         ran_out = one.ran_out ∷ others.ran_out;
         each = ap suc others.each;
-        leaves = others.leaves ∙ ap (λ (t : List Entry). after most_lines t others.edits others.ran_out) one.moves;
+        leaves = others.leaves ∙ ap (λ (s : List Entry). after most_lines s others.edits others.ran_out) one.moves;
       }
       | inr none ↦ record {
         edits = others.edits;
         asked = passed_over line lines others.edits none.none others.asked;
         ran_out = others.ran_out;
         each = others.each;
-        leaves = others.leaves ∙ ap (λ (t : List Entry). after most_lines t others.edits others.ran_out) none.same;
+        leaves = others.leaves ∙ ap (λ (s : List Entry). after most_lines s others.edits others.ran_out) none.same;
       }
     ]
 
 -- lines one after the other
-record Split (profile : Profile) (t : List Entry) (xs ys : List (List ℕ)) (text : List ℕ)
-    (u : List Entry) : Type 0 where
-  now : List Entry
+record Split (profile : Profile) (t : ScriptState) (xs ys : List (List ℕ)) (text : List ℕ)
+    (u : ScriptState) : Type 0 where
+  now : ScriptState
   first : List ℕ
   rest : List ℕ
   before : Run profile t xs first now
   others : Run profile now ys rest u
   joins : text ≡ first ++ rest
 
-run_split : (profile : Profile) (t : List Entry) (xs ys : List (List ℕ)) (text : List ℕ) (u : List Entry)
+run_split : (profile : Profile) (t : ScriptState) (xs ys : List (List ℕ)) (text : List ℕ) (u : ScriptState)
     → Run profile t (xs ++ ys) text u → Split profile t xs ys text u
 run_split profile t [] ys text u run = record {
   now = t;
@@ -160,18 +174,20 @@ run_split profile t (x ∷ xs) ys text u run =
     }
 
 pub each_report_is_of_its_trace : EachReportIsOfItsTrace
-each_report_is_of_its_trace profile trace left before others text run =
-    let s = run_split profile trace before (codes "report" ∷ others) text left run in
+each_report_is_of_its_trace profile t left before others text run =
+    let s = run_split profile t before (codes "report" ∷ others) text left run in
     let (reply, mid, rest, is, more, cut) = s.others in
     let done = reported profile s.now mid reply is in
     record {
       now = s.now;
+      later = mid;
       first = s.first;
       reply = reply;
       rest = rest;
       text_is = s.joins ∙ ap (λ l. s.first ++ l) cut ∙ sym (append_assoc s.first reply rest);
-      edits = script_leaves_what_edits_give profile trace s.now before s.first s.before;
+      edits = script_leaves_what_edits_give profile t s.now before s.first s.before;
       lines = s.before;
       report = done.1;
-      more = subst (λ (t : List Entry). Run profile t others rest left) done.0 more;
+      same = done.0;
+      more = more;
     }

@@ -8,5 +8,7 @@ pub mod Queries
 pub mod StartLines
 pub mod StartParsed
 pub mod Chunks
+pub mod RunTable
 pub mod Traced
+pub mod Walked
 pub mod Works

@@ -17,6 +17,8 @@ pub data Asked : Type 0 where
   -- `report`, and `report A B`
   report_all : Asked
   report_lines : ℕ → ℕ → Asked
+  -- `changes`
+  tell_changes : Asked
   -- any other line
   unknown : Asked
 
@@ -64,6 +66,7 @@ abbrev pub asked_alone : List ℕ → Asked
 asked_alone word =
     if bytes_eq word (codes "count") then count_lines
     else if bytes_eq word (codes "report") then report_all
+    else if bytes_eq word (codes "changes") then tell_changes
     else unknown
 
 -- a word, and what follows the space after it

@@ -9,6 +9,7 @@ use Rattle.cap_machine.specs.Check.{check}
 use Rattle.cap_session.specs.Devices.{SourceState, SinkState}
 use Rattle.cap_session.specs.Lines.{lines}
 use Rattle.cap_session.specs.Reads.{IsEnded, NotAtEnd, UsedUp, faults}
+use Rattle.cap_session.specs.Replies.{ScriptState, begun}
 use Rattle.cap_session.specs.Scripts.{Replied, Broken, script_lines}
 use Rattle.cap_session.specs.AnswerStreams.{of_trace, Rejected, Taken}
 use Rattle.cap_session.specs.Outcome.{read_faults}
@@ -20,16 +21,15 @@ use Rattle.cap_session.specs.declared.outcome.Outcome.TheVariants.{ReadFault, Wr
 use Rattle.cap_session.specs.declared.outcome.ExplainOutcome.TheVariants.{Ended}
 
 -- The writer failed in the replies to the lines of a script, at its end or before, when these bytes of it were given.
-abbrev pub IsBroken : Profile → SourceState → SourceState → SinkState → SinkState → List ℕ → List Entry → Type 0
+abbrev pub IsBroken : Profile → SourceState → SourceState → SinkState → SinkState → List ℕ → ScriptState → Type 0
 IsBroken profile s0 s1 w0 w1 given t = (NotAtEnd s0 s1 × Broken profile t w0 w1 (script_lines [] given))
     ⊎ (IsEnded s0 s1 × Broken profile t w0 w1 (lines given))
 
 -- ---- the script: s is its reader, and w the writer
 
--- What the replies to the lines end with, for the bytes that were given: t is the trace before them, and u the one
--- after them.
+-- What the replies to the lines end with, for the bytes that were given: they work on t, and leave u.
 abbrev pub RepliesUntil : {T : Type 0} → Profile → ℕ → SourceState → SourceState → SinkState → SinkState → List ℕ
-    → List Entry → List Entry → Result T StopReason → Type 0
+    → ScriptState → ScriptState → Result T StopReason → Type 0
 RepliesUntil profile turns s0 s1 w0 w1 given t u (Ok _) = IsEnded s0 s1 × Replied profile t w0 w1 (lines given) u
 RepliesUntil profile turns s0 s1 w0 w1 given t u (Err stops.ReadFault) =
     NotAtEnd s0 s1 × Replied profile t w0 w1 (script_lines [] given) u
@@ -40,7 +40,7 @@ RepliesUntil profile turns s0 s1 w0 w1 given t u (Err _) = ⊥
 
 -- Some bytes were given, and the replies are those to their lines.
 pub record RepliesToAll {T : Type 0} (profile : Profile) (turns : ℕ) (s0 s1 : SourceState) (w0 w1 : SinkState)
-    (t u : List Entry) (result : Result T StopReason) : Type 0 where
+    (t u : ScriptState) (result : Result T StopReason) : Type 0 where
   pub given : List ℕ
   pub read : Consumes s0.bytes s1.bytes given
   pub calls : s1.calls ≤ s0.calls + turns
@@ -56,12 +56,12 @@ IsOutcome profile u _ = ⊥
 
 -- The outcome, for the bytes of the script that were given. At the end it is that of the trace as it then is, unless
 -- memory runs out.
-abbrev pub ScriptHasOutcome : Profile → ℕ → SourceState → SourceState → SinkState → SinkState → List ℕ → List Entry
-    → List Entry → Outcome → Type 0
+abbrev pub ScriptHasOutcome : Profile → ℕ → SourceState → SourceState → SinkState → SinkState → List ℕ → ScriptState
+    → ScriptState → Outcome → Type 0
 ScriptHasOutcome profile turns s0 s1 w0 w1 given t u Clean =
-    IsEnded s0 s1 × Replied profile t w0 w1 (lines given) u × (check usual (steps profile u) ≡ [])
+    IsEnded s0 s1 × Replied profile t w0 w1 (lines given) u × (check usual (steps profile u.trace) ≡ [])
 ScriptHasOutcome profile turns s0 s1 w0 w1 given t u Findings =
-    IsEnded s0 s1 × Replied profile t w0 w1 (lines given) u × (check usual (steps profile u) ≢ [])
+    IsEnded s0 s1 × Replied profile t w0 w1 (lines given) u × (check usual (steps profile u.trace) ≢ [])
 ScriptHasOutcome profile turns s0 s1 w0 w1 given t u Memory = IsEnded s0 s1 × Replied profile t w0 w1 (lines given) u
 ScriptHasOutcome profile turns s0 s1 w0 w1 given t u ReadFault =
     NotAtEnd s0 s1 × Replied profile t w0 w1 (script_lines [] given) u
@@ -70,14 +70,14 @@ ScriptHasOutcome profile turns s0 s1 w0 w1 given t u TooLong =
 ScriptHasOutcome profile turns s0 s1 w0 w1 given t u WriteFault = IsBroken profile s0 s1 w0 w1 given t
 ScriptHasOutcome profile turns s0 s1 w0 w1 given t u _ = ⊥
 
--- What replying to a script on a trace does.
-pub record Replies (profile : Profile) (turns : ℕ) (s0 s1 : SourceState) (w0 w1 : SinkState) (t : List Entry)
+-- What replying to a script does.
+pub record Replies (profile : Profile) (turns : ℕ) (s0 s1 : SourceState) (w0 w1 : SinkState) (t : ScriptState)
     (outcome : Outcome) : Type 0 where
   pub given : List ℕ
   pub read : Consumes s0.bytes s1.bytes given
   pub calls : s1.calls ≤ s0.calls + turns
   pub read_fault : s1.failures ≡ s0.failures + read_faults outcome
-  pub after : List Entry
+  pub after : ScriptState
   pub answer : ScriptHasOutcome profile turns s0 s1 w0 w1 given t after outcome
 
 -- ---- the whole call: r is the reader of the trace, s that of the script, and w the writer
@@ -85,4 +85,4 @@ pub record Replies (profile : Profile) (turns : ℕ) (s0 s1 : SourceState) (w0 w
 abbrev pub EditStreams : Profile → ℕ → SourceState → SourceState → SourceState → SourceState → SinkState → SinkState
     → Outcome → Type 0
 EditStreams profile turns r0 r1 s0 s1 w0 w1 outcome = Rejected of_trace turns r0 r1 s0 s1 w0 w1 (Ended outcome)
-    ⊎ Taken of_trace turns r0 r1 (λ entries. Replies profile turns s0 s1 w0 w1 entries outcome)
+    ⊎ Taken of_trace turns r0 r1 (λ entries. Replies profile turns s0 s1 w0 w1 (begun entries) outcome)

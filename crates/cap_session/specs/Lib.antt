@@ -1,4 +1,5 @@
 pub mod AnswerStreams
+pub mod Changes
 pub mod Commands
 pub mod Devices
 pub mod EditLaws
@@ -14,6 +15,7 @@ pub mod LimitStreams
 pub mod LimitTextLaws
 pub mod Limits
 pub mod Lines
+pub mod Origins
 pub mod Outcome
 pub mod Reads
 pub mod Refusal

@@ -31,6 +31,7 @@ use Rattle.cap_session.specs.LimitScriptLaws.{Accepts, IsNamed, all_ok, with_scr
 use Rattle.cap_session.specs.LimitScripts.{ScriptLine, insertion, limit_line, enter_line, script_text}
 use Rattle.cap_session.specs.LimitScripts.{makers_script, insertions, entering_line}
 use Rattle.cap_session.specs.LimitStreams.{limits_script, before_script}
+use Rattle.cap_session.specs.Replies.{ScriptState, begun}
 use Rattle.cap_session.specs.Scripts.{Run}
 use Rattle.cap_session.specs.StartTexts.{described_by}
 use Rattle.cap_session.specs.Trace.{trace}
@@ -66,8 +67,9 @@ StartsAreSpelled = (text : List ℕ) (start : List Added) → described_by text 
 -- Each line of the script is accepted, up to the first for which the trace is full or memory ran out. Where none is
 -- refused, the trace that is left is the old one with the lines of the script in it.
 abbrev pub EditAccepts : Profile → List Entry → List ScriptLine → Type 0
-EditAccepts profile t script = (left : List Entry) (replies : List ℕ) → Run profile t (lines (script_text script)) replies left
-    → Accepts t script replies left × (replies ≡ all_ok t script → left ≡ with_script t script)
+EditAccepts profile t script = (left : ScriptState) (replies : List ℕ)
+    → Run profile (begun t) (lines (script_text script)) replies left
+    → Accepts t script replies left.trace × (replies ≡ all_ok t script → left.trace ≡ with_script t script)
 
 abbrev pub LimitsBeforeAreAccepted : Type 0
 LimitsBeforeAreAccepted = (profile : Profile) (start : List Added) (t : List Entry) (k : ℕ) (limits : LimitsBefore)

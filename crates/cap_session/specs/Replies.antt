@@ -15,7 +15,9 @@ use Rattle.cap_session.specs.Limits.{most_lines}
 use Rattle.cap_session.specs.Edits.{is_position, inserted, deleted, replaced}
 use Rattle.cap_session.specs.Refused.{code_of}
 use Rattle.cap_session.specs.Commands.{Asked, insert_line, replace_line, delete_line, show_line, count_lines}
-use Rattle.cap_session.specs.Commands.{report_all, report_lines, unknown}
+use Rattle.cap_session.specs.Commands.{report_all, report_lines, tell_changes, unknown}
+use Rattle.cap_session.specs.Changes.{changes}
+use Rattle.cap_session.specs.Origins.{Base, base_of, made_new, moved, put_in, taken_out}
 use Rattle.cap_session.specs.declared.refused.Refused.{Refused}
 use Rattle.cap_session.specs.declared.refused.Refused.TheVariants.{Position}
 
@@ -53,35 +55,59 @@ ranged profile trace first last = if is_range (length trace) first last
 
 -- ---- commands
 
--- a reply, and the trace that the command leaves
+-- What a script works on: the trace, and what is kept of its last report.
+pub record ScriptState : Type 0 where
+  pub trace : List Entry
+  pub base : Option Base
+
+-- a trace that a script begins with
+abbrev pub begun : List Entry → ScriptState
+begun trace = record { trace = trace; base = None }
+
+-- What becomes of what is kept: it stays, or becomes this, unless memory is refused for it.
+pub data Keeping : Type 0 where
+  stays : Keeping
+  becomes : Option Base → Keeping
+
+-- a reply, the trace that the command leaves, and what becomes of what is kept
 pub record Done : Type 0 where
   pub text : List ℕ
   pub trace : List Entry
+  pub keeping : Keeping
 
 abbrev pub line_feed : List ℕ
 line_feed = codes "\n"
 
 -- an edit is replied to with the new count
-abbrev pub edit_done : Result (List Entry) Refused → Result Done ℕ
-edit_done (Ok next) = Ok (record { text = codes "ok " ++ decimal (length next) ++ line_feed; trace = next })
-edit_done (Err e) = Err (code_of e)
+abbrev pub edit_done : (List (Option ℕ) → List (Option ℕ)) → Option Base → Result (List Entry) Refused → Result Done ℕ
+edit_done edit base (Ok next) = Ok (record {
+  text = codes "ok " ++ decimal (length next) ++ line_feed;
+  trace = next;
+  keeping = becomes (moved edit base);
+})
+edit_done edit base (Err e) = Err (code_of e)
 
--- what was asked for is replied, and the trace stays
+-- what was asked for is replied, and all stays
 abbrev pub shown_done : List Entry → List ℕ → Result (List ℕ) Refused → Result Done ℕ
-shown_done trace end (Ok text) = Ok (record { text = text ++ end; trace = trace })
+shown_done trace end (Ok text) = Ok (record { text = text ++ end; trace = trace; keeping = stays })
 shown_done trace end (Err e) = Err (code_of e)
+
+-- a report is replied, and kept
+abbrev pub told_done : List Entry → List ℕ → Result Done ℕ
+told_done trace text = Ok (record { text = text; trace = trace; keeping = becomes (Some (base_of trace)) })
 
 -- what a command does, or the number in the reply where it isn't done; a script's session holds as many lines as a trace
 -- may have
-abbrev pub commanded : Profile → List Entry → Asked → Result Done ℕ
-commanded profile trace (insert_line k line) = edit_done (inserted most_lines trace k line)
-commanded profile trace (replace_line k line) = edit_done (replaced trace k line)
-commanded profile trace (delete_line k) = edit_done (deleted trace k)
-commanded profile trace (show_line k) = shown_done trace line_feed (shown trace k)
-commanded profile trace count_lines = Ok (record { text = decimal (length trace) ++ line_feed; trace = trace })
-commanded profile trace report_all = Ok (record { text = report usual (steps profile trace); trace = trace })
-commanded profile trace (report_lines a b) = shown_done trace [] (ranged profile trace a b)
-commanded profile trace unknown = Err 10
+abbrev pub commanded : Profile → ScriptState → Asked → Result Done ℕ
+commanded profile t (insert_line k line) = edit_done (put_in k) t.base (inserted most_lines t.trace k line)
+commanded profile t (replace_line k line) = edit_done (made_new k) t.base (replaced t.trace k line)
+commanded profile t (delete_line k) = edit_done (taken_out k) t.base (deleted t.trace k)
+commanded profile t (show_line k) = shown_done t.trace line_feed (shown t.trace k)
+commanded profile t count_lines = shown_done t.trace line_feed (Ok (decimal (length t.trace)))
+commanded profile t report_all = told_done t.trace (report usual (steps profile t.trace))
+commanded profile t (report_lines a b) = shown_done t.trace [] (ranged profile t.trace a b)
+commanded profile t tell_changes = told_done t.trace (changes profile t.base t.trace)
+commanded profile t unknown = Err 10
 
 -- Memory may run out for every command that isn't refused, but for `count`.
 abbrev pub may_run_out : Asked → Bool
@@ -92,6 +118,7 @@ may_run_out (delete_line k) = true
 may_run_out (show_line k) = true
 may_run_out report_all = true
 may_run_out (report_lines a b) = true
+may_run_out tell_changes = true
 may_run_out unknown = false
 
 -- `refused E7` and LF

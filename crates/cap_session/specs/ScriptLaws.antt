@@ -13,7 +13,7 @@ use Rattle.cap_session.specs.Trace.{is_skipped}
 use Rattle.cap_session.specs.Refused.{code_of}
 use Rattle.cap_session.specs.Edits.{after, answers}
 use Rattle.cap_session.specs.Commands.{asked, edit_asked}
-use Rattle.cap_session.specs.Replies.{refused_text, line_feed}
+use Rattle.cap_session.specs.Replies.{ScriptState, refused_text, line_feed}
 use Rattle.cap_session.specs.Scripts.{Run}
 
 -- A line that is neither too long nor a comment asks for an edit.
@@ -41,11 +41,12 @@ ReportOrOutOfMemory profile trace text = (text ≡ report usual (steps profile t
 -- other. Before it come the answers of the edits. For which of them memory ran out is left open.
 abbrev pub ScriptReportsWhatEditsGive : Type 0
 ScriptReportsWhatEditsGive =
-    (profile : Profile) (trace left : List Entry) (lines : List (List ℕ)) (edits : List Edit) (text : List ℕ) →
-    AskAll lines edits → Run profile trace (lines ++ codes "report" ∷ []) text left →
+    (profile : Profile) (t left : ScriptState) (lines : List (List ℕ)) (edits : List Edit) (text : List ℕ) →
+    AskAll lines edits → Run profile t (lines ++ codes "report" ∷ []) text left →
     (ran_out : List Bool) × (last : List ℕ) × (length ran_out ≡ length edits)
-    × (left ≡ after most_lines trace edits ran_out) ×
-    (text ≡ flat_map answer_text (answers most_lines trace edits ran_out) ++ last) × ReportOrOutOfMemory profile left last
+    × (left.trace ≡ after most_lines t.trace edits ran_out) ×
+    (text ≡ flat_map answer_text (answers most_lines t.trace edits ran_out) ++ last)
+    × ReportOrOutOfMemory profile left.trace last
 
 -- A line asks for no edit.
 abbrev pub AsksNone : List ℕ → Type 0
@@ -70,25 +71,27 @@ pub record LeavesEdits (trace : List Entry) (lines : List (List ℕ)) (left : Li
 
 -- Whatever the lines of a script are, they leave the trace that the edits among them leave.
 abbrev pub ScriptLeavesWhatEditsGive : Type 0
-ScriptLeavesWhatEditsGive = (profile : Profile) (trace left : List Entry) (lines : List (List ℕ)) (text : List ℕ)
-    → Run profile trace lines text left → LeavesEdits trace lines left
+ScriptLeavesWhatEditsGive = (profile : Profile) (t left : ScriptState) (lines : List (List ℕ)) (text : List ℕ)
+    → Run profile t lines text left → LeavesEdits t.trace lines left.trace
 
--- `now` is the trace at a line `report`, `reply` is the reply to it, and `first` and `rest` are those to the lines
+-- `now` is what the script works on at a line `report`, `reply` is the reply to it, and `first` and `rest` are those to the lines
 -- before and after it.
-pub record ReportsThen (profile : Profile) (trace left : List Entry) (before others : List (List ℕ))
+pub record ReportsThen (profile : Profile) (t left : ScriptState) (before others : List (List ℕ))
     (text : List ℕ) : Type 0 where
-  pub now : List Entry
+  pub now : ScriptState
+  pub later : ScriptState
   pub first : List ℕ
   pub reply : List ℕ
   pub rest : List ℕ
   pub text_is : text ≡ first ++ reply ++ rest
-  pub edits : LeavesEdits trace before now
-  pub lines : Run profile trace before first now
-  pub report : ReportOrOutOfMemory profile now reply
-  pub more : Run profile now others rest left
+  pub edits : LeavesEdits t.trace before now.trace
+  pub lines : Run profile t before first now
+  pub report : ReportOrOutOfMemory profile now.trace reply
+  pub same : later.trace ≡ now.trace
+  pub more : Run profile later others rest left
 
 -- Each `report` in a script is replied to with the report of the trace that the edits before it leave, whatever else
 -- comes before it and after it.
 abbrev pub EachReportIsOfItsTrace : Type 0
-EachReportIsOfItsTrace = (profile : Profile) (trace left : List Entry) (before others : List (List ℕ)) (text : List ℕ) →
-    Run profile trace (before ++ codes "report" ∷ others) text left → ReportsThen profile trace left before others text
+EachReportIsOfItsTrace = (profile : Profile) (t left : ScriptState) (before others : List (List ℕ)) (text : List ℕ) →
+    Run profile t (before ++ codes "report" ∷ others) text left → ReportsThen profile t left before others text

@@ -1,7 +1,6 @@
 -- The replies to a script in a profile.
 use Rattle.std.specs.Prelude.{◌≡◌, ℕ, nat_lt, ◌⊎◌, List, [], ◌∷◌, ◌++◌, length, if◌then◌else◌, MatchBool, IsTrue, IsOk}
-use Rattle.std.specs.Prelude.{Result, Ok, Err}
-use Rattle.cap_trace.specs.Entry.{Entry}
+use Rattle.std.specs.Prelude.{Result, Ok, Err, Option}
 use Rattle.cap_machine.specs.declared.cell.Profile.{Profile}
 use Rattle.cap_session.specs.Devices.{SinkState}
 use Rattle.cap_session.specs.Limits.{longest_script_line}
@@ -9,32 +8,44 @@ use Rattle.cap_session.specs.Lines.{whole_lines, last_piece, line_if_any}
 use Rattle.cap_session.specs.Trace.{is_skipped}
 use Rattle.cap_session.specs.Writes.{Wrote, WrotePrefix}
 use Rattle.cap_session.specs.Commands.{Asked, asked}
-use Rattle.cap_session.specs.Replies.{Done, commanded, may_run_out, refused_text}
+use Rattle.cap_session.specs.Replies.{Done, Keeping, ScriptState, becomes, commanded, may_run_out, refused_text, stays}
+use Rattle.cap_session.specs.Origins.{Base, IsKeptAs}
 
--- The command was done, and its reply is this; or it was refused, and left the trace.
-abbrev pub RepliesTo : List Entry → Result Done ℕ → List ℕ → List Entry → Type 0
-RepliesTo t (Ok done) text u = (text ≡ done.text) × (u ≡ done.trace)
+-- What is kept stays, or becomes this, or is lost where memory is refused for it.
+abbrev pub Keeps : Keeping → Option Base → Option Base → Type 0
+Keeps stays old new = new ≡ old
+Keeps (becomes base) old new = IsKeptAs base new
+
+-- A command was done: this is its reply, and what it leaves.
+pub record Does (t : ScriptState) (done : Done) (text : List ℕ) (u : ScriptState) : Type 0 where
+  pub reply : text ≡ done.text
+  pub trace : u.trace ≡ done.trace
+  pub keeps : Keeps done.keeping t.base u.base
+
+-- The command was done, and its reply is this; or it was refused, and left all as it was.
+abbrev pub RepliesTo : ScriptState → Result Done ℕ → List ℕ → ScriptState → Type 0
+RepliesTo t (Ok done) text u = Does t done text u
 RepliesTo t (Err code) text u = (text ≡ refused_text code) × (u ≡ t)
 
--- Memory ran out for a command that isn't refused, and the trace was left.
-abbrev pub RunsOut : Profile → List Entry → Asked → List ℕ → List Entry → Type 0
+-- Memory ran out for a command that isn't refused, and all was left as it was.
+abbrev pub RunsOut : Profile → ScriptState → Asked → List ℕ → ScriptState → Type 0
 RunsOut profile t ask text u = IsTrue (may_run_out ask) × IsOk (commanded profile t ask) × (text ≡ refused_text 9) × (u ≡ t)
 
-abbrev pub Commands : Profile → List Entry → Asked → List ℕ → List Entry → Type 0
+abbrev pub Commands : Profile → ScriptState → Asked → List ℕ → ScriptState → Type 0
 Commands profile t ask text u = RepliesTo t (commanded profile t ask) text u ⊎ RunsOut profile t ask text u
 
--- This may be written of the line, and the trace t becomes u. A line that is too long is refused with 1, whatever it
+-- This may be written of the line, and t becomes u. A line that is too long is refused with 1, whatever it
 -- holds; an empty line and a comment are skipped.
-abbrev pub Answers : Profile → List Entry → List ℕ → List ℕ → List Entry → Type 0
+abbrev pub Answers : Profile → ScriptState → List ℕ → List ℕ → ScriptState → Type 0
 Answers profile t line text u =
     MatchBool (nat_lt longest_script_line (length line)) ((text ≡ refused_text 1) × (u ≡ t))
     (MatchBool (is_skipped line) ((text ≡ []) × (u ≡ t)) (Commands profile t (asked line) text u))
 
 -- These may be the replies to the lines, one after the other.
-abbrev pub Run : Profile → List Entry → List (List ℕ) → List ℕ → List Entry → Type 0
+abbrev pub Run : Profile → ScriptState → List (List ℕ) → List ℕ → ScriptState → Type 0
 Run profile t [] text u = (text ≡ []) × (u ≡ t)
 Run profile t (line ∷ more) text u =
-    (first : List ℕ) × (mid : List Entry) × (rest : List ℕ) × Answers profile t line first mid
+    (first : List ℕ) × (mid : ScriptState) × (rest : List ℕ) × Answers profile t line first mid
     × Run profile mid more rest u × (text ≡ first ++ rest)
 
 -- a last piece that is too long is replied to before its LF
@@ -47,29 +58,29 @@ abbrev pub script_lines : List ℕ → List ℕ → List (List ℕ)
 script_lines held bytes = whole_lines held bytes ++ long_piece (last_piece held bytes)
 
 -- These lines were replied to.
-pub record Replied (profile : Profile) (t : List Entry) (w0 w1 : SinkState) (lines : List (List ℕ))
-    (u : List Entry) : Type 0 where
+pub record Replied (profile : Profile) (t : ScriptState) (w0 w1 : SinkState) (lines : List (List ℕ))
+    (u : ScriptState) : Type 0 where
   pub text : List ℕ
   pub run : Run profile t lines text u
   pub wrote : Wrote w0 w1 text
 
 -- The writer failed in the replies to the first of these lines.
-pub record Broken (profile : Profile) (t : List Entry) (w0 w1 : SinkState) (lines : List (List ℕ)) : Type 0 where
+pub record Broken (profile : Profile) (t : ScriptState) (w0 w1 : SinkState) (lines : List (List ℕ)) : Type 0 where
   pub first : List (List ℕ)
   pub others : List (List ℕ)
   pub cut : lines ≡ first ++ others
   pub text : List ℕ
-  pub trace : List Entry
-  pub run : Run profile t first text trace
+  pub left : ScriptState
+  pub run : Run profile t first text left
   pub wrote : WrotePrefix w0 w1 text
 
 -- ---- while a script comes
 
--- What is known: the profile, the trace, and the beginning of the next line, no more of it than `most_held` bytes
--- are kept.
+-- What is known: the profile, what the script works on, and the beginning of the next line, no more of it than `most_held`
+-- bytes are kept.
 pub record Scripting : Type 0 where
   pub profile : Profile
-  pub trace : List Entry
+  pub state : ScriptState
   pub held : List ℕ
 
 abbrev pub tail : List (List ℕ) → List (List ℕ)

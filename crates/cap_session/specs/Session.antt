@@ -1,11 +1,17 @@
 -- What a session holds, and what its calls answer.
-use Rattle.std.specs.Prelude.{◌≡◌, ◌≢◌, ◌↔◌, ◌≤◌, ℕ, ◌+◌, Bool, true, false, List, length, map, All, Result, Ok, Err}
+use Rattle.std.specs.Prelude.{◌≡◌, ◌≢◌, ◌↔◌, ◌≤◌, ℕ, ◌+◌, ◌-◌, Bool, true, false, List, length, map, All, Result, Ok, Err, ⊤}
+use Rattle.std.specs.Prelude.{Option, None, Some, IfSome, slice_get}
+use Rattle.std.specs.List.{AllZip}
 use Rattle.cap_trace.specs.Entry.{Entry}
 use Rattle.cap_machine.specs.declared.cell.Profile.{Profile}
 use Rattle.cap_machine.specs.declared.verdict.Found.{Found}
+use Rattle.cap_machine.specs.Check.{check}
+use Rattle.cap_machine.specs.State.{usual}
 use Rattle.cap_machine.specs.Steps.{steps}
 use Rattle.cap_machine.specs.declared.step.Step.{Step}
 use Rattle.cap_session.specs.Limits.{most_lines}
+use Rattle.cap_session.specs.Origins.{Base}
+use Rattle.cap_session.specs.declared.last_report.LastReport.{LastReport}
 use Rattle.cap_session.specs.declared.edit.Edit.{Edit}
 use Rattle.cap_session.specs.declared.edit.Edit.TheVariants.{Insert, Delete, Replace}
 use Rattle.cap_session.specs.declared.refused.Refused.{Refused}
@@ -22,6 +28,9 @@ pub record SessionState : Type 0 where
   pub limit : ℕ
   -- how many summaries the last edit or load joined from two others
   pub joins : ℕ
+  -- what it keeps of its last report: nothing before the first, after a load, where memory was refused, or since its lines
+  -- made too many runs
+  pub base : Option Base
 
 -- What a contract sees of a trace that is read for a session.
 pub record LoadingState : Type 0 where
@@ -36,7 +45,31 @@ lines_of shared = map (λ (step : Step). step.line) shared
 abbrev pub IsIn : Profile → List Step → Type 0
 IsIn profile shared = shared ≡ steps profile (lines_of shared)
 
--- What always holds of the steps that a session keeps, and of those that it will take over.
+-- Where a step of today stood then, the same step stood.
+abbrev pub StoodThere : List Step → Option ℕ → Step → Type 0
+StoodThere before None step = ⊤
+StoodThere before (Some position) step = slice_get before (position - 1) ≡ Some step
+
+-- A report that is kept tells what was found in its trace, and each step of today that stood in that is the same.
+pub record IsLast (profile : Profile) (now : List Step) (last : LastReport) : Type 0 where
+  pub in_profile : IsIn profile last.tree
+  pub few : length last.tree ≤ most_lines
+  pub found : last.found.items ≡ check usual last.tree
+  pub stood : AllZip (StoodThere last.tree) last.origins now
+
+-- what callers see of it
+abbrev pub base_kept : Option LastReport → Option Base
+base_kept None = None
+base_kept (Some last) = Some (record { trace = lines_of last.tree; origins = last.origins })
+
+-- What always holds of a session.
+pub record IsSession (profile : Profile) (limit : ℕ) (shared : List Step) (last : Option LastReport) : Type 0 where
+  pub in_profile : IsIn profile shared
+  pub few : length shared ≤ limit
+  pub most : limit ≤ most_lines
+  pub report : IfSome last (IsLast profile shared)
+
+-- What always holds of steps that a session will take over.
 pub record IsKept (profile : Profile) (limit : ℕ) (shared : List Step) : Type 0 where
   pub in_profile : IsIn profile shared
   pub few : length shared ≤ limit

@@ -27,6 +27,7 @@ pub enum Command<'a> {
     Count,
     Report,
     ReportRange(usize, usize),
+    Changes,
 }
 
 /// The bytes before the first space, and those after it where there is one.
@@ -49,6 +50,8 @@ fn alone(word: &[u8]) -> Option<Command<'static>>
         Some(Command::Count)
     } else if word == b"report".as_slice() {
         Some(Command::Report)
+    } else if word == b"changes".as_slice() {
+        Some(Command::Changes)
     } else {
         None
     }

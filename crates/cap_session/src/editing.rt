@@ -33,7 +33,7 @@ fn edit_loaded<S: Source, W: Sink>(
     requires some { 0 < length piece.old }
     requires most { length piece.old ≤ longest_piece }
     ensures { Replies script.profile turns (S.state reader.old) (S.state reader.new) (W.state writer.old)
-        (W.state writer.new) script.trace result }
+        (W.state writer.new) script.state result }
 {
     match reply_all(turns, reader, writer, &mut script, piece) {
         Ok(()) => outcome_of(&script.session),
@@ -62,7 +62,8 @@ fn outcome_of(session: &Session) -> Outcome
 ///
 /// - `insert K LINE`, `replace K LINE` and `delete K` reply `ok N`, where N is the new count.
 /// - `show K` replies the line's canonical text, `count` the number of lines, `report` the report, and `report A B`
-///   the findings of the whole check at the positions A to B.
+///   the findings of the whole check at the positions A to B. `changes` replies what went and what came since the last
+///   `report` or `changes`.
 /// - A command that is refused replies `refused E7`, by the code of its refusal, and any other line `refused E10`. One
 ///   for which memory runs out replies `refused E9`. The script goes on.
 ///

@@ -16,6 +16,7 @@
 #![tactic(auto)]
 
 mod chains;
+mod changes;
 mod check;
 mod command;
 mod counted;
@@ -26,6 +27,7 @@ mod entries;
 mod explained;
 mod explaining;
 mod from_start;
+mod last_report;
 mod laws;
 mod limits;
 mod limits_text;
@@ -33,6 +35,7 @@ mod line_buffer;
 mod line_ends;
 mod lines;
 mod loading;
+mod origins;
 mod outcome;
 mod read;
 mod refused;

@@ -1,5 +1,5 @@
 //! Loading: the lines of a trace are kept for a session, through the same code that reads a trace for a check.
-ghost use Rattle.std.specs.Prelude.{◌≡◌, [], length, IfOk};
+ghost use Rattle.std.specs.Prelude.{None, ◌≡◌, [], length, IfOk};
 ghost use Rattle.cap_session.specs.Limits.{most_lines};
 ghost use Rattle.cap_session.specs.Session.{LoadingState, IsKept, lines_of};
 ghost use Rattle.cap_tree.specs.Run.{values};
@@ -48,6 +48,7 @@ impl Loading {
         ensures profile { IfOk result (λ session. session.profile ≡ self.profile) }
         ensures trace { IfOk result (λ session. session.trace ≡ self.trace) }
         ensures limit { IfOk result (λ session. session.limit ≡ most_lines) }
+        ensures base { IfOk result (λ session. session.base ≡ None) }
     {
         let mut session = Session::with_profile(self.alloc, MOST_LINES, self.profile)?;
         session.load_steps(self.steps)?;

@@ -2,7 +2,7 @@
 ghost use Rattle.std.specs.Prelude.{◌≡◌, ◌<◌, ◌≤◌, [], ◌∷◌, ◌++◌, length, take, OnOk, OnErr};
 ghost use Rattle.cap_session.specs.Limits.{longest_piece, most_held, most_lines};
 ghost use Rattle.cap_session.specs.Lines.{last_piece};
-ghost use Rattle.cap_session.specs.Code.Performs.{command_asked, Performs, text_of};
+ghost use Rattle.cap_session.specs.Code.Performs.{command_asked, Performs, state_of, text_of};
 ghost use Rattle.cap_session.specs.Scripts.{Answers, Scripting, Replied, Broken, due, due_line, due_piece, due_end};
 
 use crate::command::{Command, command_of};
@@ -42,8 +42,8 @@ impl Reply {
 /// Makes an edit, and replies with the new count.
 fn perform_edit(session: &mut Session, edit: &Edit<'_>) -> Result<Reply, Refused>
     requires { session.old.limit ≡ most_lines }
-    ensures performs { Performs session.old.profile session.old.trace
-        (command_asked (Command.Edit edit.now)) result session.new.trace }
+    ensures performs { Performs session.old.profile (state_of session.old)
+        (command_asked (Command.Edit edit.now)) result (state_of session.new) }
     ensures limit { session.new.limit ≡ session.old.limit }
     ensures profile { session.new.profile ≡ session.old.profile }
 {
@@ -55,8 +55,8 @@ fn perform_edit(session: &mut Session, edit: &Edit<'_>) -> Result<Reply, Refused
 
 /// Replies with the text of a line.
 fn perform_show(session: &Session, position: usize) -> Result<Reply, Refused>
-    ensures { Performs session.now.profile session.now.trace
-        (command_asked (Command.Show position)) result session.now.trace }
+    ensures { Performs session.now.profile (state_of session.now)
+        (command_asked (Command.Show position)) result (state_of session.now) }
 {
     let mut text = session.show(position)?;
     text.push(b'\n')?;
@@ -66,8 +66,8 @@ fn perform_show(session: &Session, position: usize) -> Result<Reply, Refused>
 /// Does a command, and gives its reply.
 fn perform(session: &mut Session, command: &Command<'_>) -> Result<Reply, Refused>
     requires { session.old.limit ≡ most_lines }
-    ensures performs { Performs session.old.profile session.old.trace
-        (command_asked command.now) result session.new.trace }
+    ensures performs { Performs session.old.profile (state_of session.old)
+        (command_asked command.now) result (state_of session.new) }
     ensures limit { session.new.limit ≡ session.old.limit }
     ensures profile { session.new.profile ≡ session.old.profile }
 {
@@ -80,13 +80,14 @@ fn perform(session: &mut Session, command: &Command<'_>) -> Result<Reply, Refuse
         }
         Command::Report => Ok(Reply::Long(session.report()?)),
         Command::ReportRange(first, last) => Ok(Reply::Long(session.report_range(first, last)?)),
+        Command::Changes => Ok(Reply::Long(session.changes()?)),
     }
 }
 
 /// The reply to a line; an empty text where the line is skipped.
 fn reply_to(session: &mut Session, line: &[u8]) -> Reply
     requires { session.old.limit ≡ most_lines }
-    ensures answers { Answers session.old.profile session.old.trace line.now (text_of result) session.new.trace }
+    ensures answers { Answers session.old.profile (state_of session.old) line.now (text_of result) (state_of session.new) }
     ensures limit { session.new.limit ≡ session.old.limit }
     ensures profile { session.new.profile ≡ session.old.profile }
 {
@@ -109,10 +110,10 @@ fn reply_to(session: &mut Session, line: &[u8]) -> Reply
 fn answer<W: Sink>(session: &mut Session, line: &[u8], writer: &mut W) -> Result<(), Failed>
     requires limit { session.old.limit ≡ most_lines }
     requires room { 1 ≤ (W.state writer.old).room }
-    ensures ok { OnOk result (Replied session.old.profile session.old.trace (W.state writer.old) (W.state writer.new)
-        (line.now ∷ []) session.new.trace) }
+    ensures ok { OnOk result (Replied session.old.profile (state_of session.old) (W.state writer.old) (W.state writer.new)
+        (line.now ∷ []) (state_of session.new)) }
     ensures err { OnErr result
-        (Broken session.old.profile session.old.trace (W.state writer.old) (W.state writer.new) (line.now ∷ [])) }
+        (Broken session.old.profile (state_of session.old) (W.state writer.old) (W.state writer.new) (line.now ∷ [])) }
     ensures limit { session.new.limit ≡ session.old.limit }
     ensures profile { session.new.profile ≡ session.old.profile }
 {
@@ -131,7 +132,7 @@ pub struct Script {
 impl Model for Script {
     ghost Value = { Scripting };
 
-    ghost view = { λ s. record { profile = s.session.profile; trace = s.session.trace; held = s.held } };
+    ghost view = { λ s. record { profile = s.session.profile; state = state_of s.session; held = s.held } };
 
     ghost invariant = { λ s. s.session.limit ≡ most_lines };
 }
@@ -140,10 +141,10 @@ impl Script {
     /// Replies to the line that is begun, which these bytes complete.
     fn line<W: Sink>(&mut self, bytes: &[u8], writer: &mut W) -> Result<(), Failed>
         requires { 1 ≤ (W.state writer.old).room }
-        ensures ok { OnOk result (Replied self.old.profile self.old.trace (W.state writer.old) (W.state writer.new)
-            (due_line self.old.held bytes.now) self.new.trace) }
+        ensures ok { OnOk result (Replied self.old.profile self.old.state (W.state writer.old) (W.state writer.new)
+            (due_line self.old.held bytes.now) self.new.state) }
         ensures held { OnOk result (self.new.held ≡ []) }
-        ensures err { OnErr result (Broken self.old.profile self.old.trace (W.state writer.old) (W.state writer.new)
+        ensures err { OnErr result (Broken self.old.profile self.old.state (W.state writer.old) (W.state writer.new)
             (due_line self.old.held bytes.now)) }
         ensures profile { self.new.profile ≡ self.old.profile }
     {
@@ -163,10 +164,10 @@ impl Script {
     /// Begins a line or goes on with it, and replies where it gets too long.
     fn hold<W: Sink>(&mut self, bytes: &[u8], writer: &mut W) -> Result<(), Failed>
         requires { 1 ≤ (W.state writer.old).room }
-        ensures ok { OnOk result (Replied self.old.profile self.old.trace (W.state writer.old) (W.state writer.new)
-            (due_piece self.old.held bytes.now) self.new.trace) }
+        ensures ok { OnOk result (Replied self.old.profile self.old.state (W.state writer.old) (W.state writer.new)
+            (due_piece self.old.held bytes.now) self.new.state) }
         ensures held { OnOk result (self.new.held ≡ take most_held (self.old.held ++ bytes.now)) }
-        ensures err { OnErr result (Broken self.old.profile self.old.trace (W.state writer.old) (W.state writer.new)
+        ensures err { OnErr result (Broken self.old.profile self.old.state (W.state writer.old) (W.state writer.new)
             (due_piece self.old.held bytes.now)) }
         ensures profile { self.new.profile ≡ self.old.profile }
     {
@@ -182,10 +183,10 @@ impl Script {
     pub fn feed<W: Sink>(&mut self, piece: &[u8], writer: &mut W) -> Result<(), Failed>
         requires room { 1 ≤ (W.state writer.old).room }
         requires short { length piece.now ≤ longest_piece }
-        ensures ok { OnOk result (Replied self.old.profile self.old.trace (W.state writer.old) (W.state writer.new)
-            (due self.old.held piece.now) self.new.trace) }
+        ensures ok { OnOk result (Replied self.old.profile self.old.state (W.state writer.old) (W.state writer.new)
+            (due self.old.held piece.now) self.new.state) }
         ensures held { OnOk result (self.new.held ≡ take most_held (last_piece self.old.held piece.now)) }
-        ensures err { OnErr result (Broken self.old.profile self.old.trace (W.state writer.old) (W.state writer.new)
+        ensures err { OnErr result (Broken self.old.profile self.old.state (W.state writer.old) (W.state writer.new)
             (due self.old.held piece.now)) }
         ensures profile { self.new.profile ≡ self.old.profile }
     {
@@ -199,10 +200,10 @@ impl Script {
     /// Replies to the line that is begun, which is the last.
     pub fn end<W: Sink>(&mut self, writer: &mut W) -> Result<(), Failed>
         requires { 1 ≤ (W.state writer.old).room }
-        ensures ok { OnOk result (Replied self.old.profile self.old.trace (W.state writer.old) (W.state writer.new)
-            (due_end self.old.held) self.new.trace) }
+        ensures ok { OnOk result (Replied self.old.profile self.old.state (W.state writer.old) (W.state writer.new)
+            (due_end self.old.held) self.new.state) }
         ensures err { OnErr result
-            (Broken self.old.profile self.old.trace (W.state writer.old) (W.state writer.new) (due_end self.old.held)) }
+            (Broken self.old.profile self.old.state (W.state writer.old) (W.state writer.new) (due_end self.old.held)) }
         ensures profile { self.new.profile ≡ self.old.profile }
     {
         if self.held.is_empty() || self.held.len() > LONGEST_SCRIPT_LINE {

@@ -4,6 +4,7 @@
 //! report goes only into those in which something is found.
 ghost use Rattle.std.specs.Prelude.{◌≡◌, ◌+◌, ◌≤◌, ◌<◌, ◌↔◌, ◌⊎◌, [], length, Ok, Err, IsOk, IfOk};
 ghost use Rattle.std.specs.Prelude.{OnOk, OnErr, IsOkUnless, IsTrue, ◌*◌, vec_len, insert, remove, slice_set};
+ghost use Rattle.std.specs.Prelude.{IfSome, None, Some};
 ghost use Rattle.cap_machine.specs.Report.{report};
 ghost use Rattle.cap_machine.specs.Check.{check};
 ghost use Rattle.cap_machine.specs.DenialReport.{denial_report};
@@ -16,20 +17,24 @@ ghost use Rattle.cap_session.specs.LimitStreams.{IsLimitsText, IsOutside};
 ghost use Rattle.cap_session.specs.Joins.{JoinsAfter};
 ghost use Rattle.cap_session.specs.Limits.{most_lines};
 ghost use Rattle.cap_session.specs.Replies.{shown, is_range, ranged};
-ghost use Rattle.cap_session.specs.Session.{SessionState, RefusesExactly, ran_out, lines_of, lines_at, IsIn, IsKept};
+ghost use Rattle.cap_session.specs.Session.{SessionState, RefusesExactly, ran_out, lines_of, lines_at, IsIn};
+ghost use Rattle.cap_session.specs.Session.{IsSession, IsLast, base_kept};
+ghost use Rattle.cap_session.specs.Changes.{changes};
+ghost use Rattle.cap_session.specs.Origins.{IsKeptAs, moved, base_of, put_in, taken_out, made_new, origins_after};
 ghost use Rattle.cap_summary.specs.Kept.{NameOrRefuseMany};
 ghost use Rattle.cap_tree.specs.Bits.{bits};
 ghost use Rattle.cap_tree.specs.Run.{values};
 
 use crate::edit::Edit;
 use crate::explained::{ExplainedLine, line_explained};
+use crate::last_report::LastReport;
 use crate::limits_text::{is_outside, limits_among};
 use crate::refused::Refused;
-use crate::report::{denials_of, text_of};
+use crate::report::{all_new, changed, denials_of, text_of};
 use crate::steps::{copies_of, step_of, steps_of};
 use crate::trace::is_position;
-use cap_machine::{NoMemory, Profile, Start, Step};
-use cap_summary::{Summary, explain, resolve, resolve_range};
+use cap_machine::{Found, NoMemory, Profile, Start, Step};
+use cap_summary::{Earlier, Summary, explain, resolve, resolve_again, resolve_range};
 use cap_trace::{Line, parse_line, write_line};
 use cap_tree::{Meter, Tree};
 use std::alloc::Global;
@@ -44,14 +49,21 @@ pub struct Session {
     tree: Tree<Summary>,
     joins: u64,
     limit: usize,
+    last: Option<LastReport>,
 }
 
 impl Model for Session {
     ghost Value = { SessionState };
 
-    ghost view = { λ s. record { profile = s.profile; trace = lines_of s.tree; limit = s.limit; joins = s.joins } };
+    ghost view = { λ s. record {
+      profile = s.profile;
+      trace = lines_of s.tree;
+      limit = s.limit;
+      joins = s.joins;
+      base = base_kept s.last;
+    } };
 
-    ghost invariant = { λ s. IsKept s.profile s.limit s.tree };
+    ghost invariant = { λ s. IsSession s.profile s.limit s.tree s.last };
 }
 
 /// What a list of edits gave.
@@ -77,7 +89,7 @@ impl Session {
     /// session.
     pub fn new(alloc: Global, limit: usize) -> Result<Session, NoMemory>
         requires { limit ≤ most_lines }
-        ensures { IfOk result (λ s. s ≡ (record { profile = One; trace = []; limit = limit; joins = 0 })) }
+        ensures { IfOk result (λ s. s ≡ (record { profile = One; trace = []; limit = limit; joins = 0; base = None })) }
     {
         Session::with_profile(alloc, limit, Profile::One)
     }
@@ -88,7 +100,7 @@ impl Session {
     /// session.
     pub fn with_profile(alloc: Global, limit: usize, profile: Profile) -> Result<Session, NoMemory>
         requires { limit ≤ most_lines }
-        ensures { IfOk result (λ s. s ≡ (record { profile = profile; trace = []; limit = limit; joins = 0 })) }
+        ensures { IfOk result (λ s. s ≡ (record { profile = profile; trace = []; limit = limit; joins = 0; base = None })) }
     {
         let mut meter = Meter::new();
         let Ok(tree) = Tree::from_list(alloc, &mut meter, Vec::new(alloc)) else {
@@ -100,6 +112,7 @@ impl Session {
             tree,
             joins: 0,
             limit,
+            last: None,
         })
     }
 
@@ -124,6 +137,7 @@ impl Session {
         ensures limit { self.new.limit ≡ self.old.limit }
         ensures profile { self.new.profile ≡ self.old.profile }
         ensures joins { OnOk result (self.new.joins ≤ 2 * length self.new.trace) }
+        ensures base { OnOk result (self.new.base ≡ None) }
     {
         if lines.len() > self.limit {
             return Err(Refused::Full);
@@ -139,26 +153,30 @@ impl Session {
         ensures trace { OnOk result (self.new.trace ≡ lines_of (values steps.items)) }
         ensures count { IfOk result (λ count. count ≡ length self.new.trace) }
         ensures joins { OnOk result (self.new.joins ≤ 2 * length self.new.trace) }
+        ensures base { OnOk result (self.new.base ≡ None) }
         ensures unchanged { OnErr result (self.new ≡ self.old) }
         ensures limit { self.new.limit ≡ self.old.limit }
         ensures profile { self.new.profile ≡ self.old.profile }
     {
         let mut meter = Meter::new();
         let tree = Tree::from_list(self.alloc, &mut meter, steps)?;
-        Ok(self.take_over(tree, &meter))
+        Ok(self.take_over(tree, None, &meter))
     }
 
-    /// Puts a tree in the place of the one that there was, and answers its length.
-    fn take_over(&mut self, tree: Tree<Summary>, meter: &Meter) -> usize
+    /// Puts a tree in the place of the one that there was, with what is kept of the last report, and answers its length.
+    fn take_over(&mut self, tree: Tree<Summary>, last: Option<LastReport>, meter: &Meter) -> usize
         requires in_profile { IsIn self.old.profile tree }
         requires few { length tree ≤ self.old.limit }
+        requires last { IfSome last (IsLast self.old.profile tree) }
         ensures trace { self.new.trace ≡ lines_of tree }
+        ensures base { self.new.base ≡ base_kept last }
         ensures count { result ≡ length tree }
         ensures joins { self.new.joins ≡ meter.now }
         ensures limit { self.new.limit ≡ self.old.limit }
         ensures profile { self.new.profile ≡ self.old.profile }
     {
         self.tree = tree;
+        self.last = last;
         self.joins = meter.joins();
         self.count()
     }
@@ -179,6 +197,7 @@ impl Session {
         ensures limit { self.new.limit ≡ self.old.limit }
         ensures profile { self.new.profile ≡ self.old.profile }
         ensures joins { OnOk result (self.new.joins ≤ 12 * bits (length self.old.trace + 1) + 12) }
+        ensures base { OnOk result (IsKeptAs (moved (put_in position) self.old.base) self.new.base) }
     {
         if !is_position(position, self.count() + 1) {
             return Err(Refused::Position);
@@ -203,6 +222,7 @@ impl Session {
         ensures limit { self.new.limit ≡ self.old.limit }
         ensures profile { self.new.profile ≡ self.old.profile }
         ensures joins { OnOk result (self.new.joins ≤ 12 * bits (length self.old.trace) + 12) }
+        ensures base { OnOk result (IsKeptAs (moved (taken_out position) self.old.base) self.new.base) }
     {
         if !is_position(position, self.count()) {
             return Err(Refused::Position);
@@ -224,6 +244,7 @@ impl Session {
         ensures limit { self.new.limit ≡ self.old.limit }
         ensures profile { self.new.profile ≡ self.old.profile }
         ensures joins { OnOk result (self.new.joins ≤ 12 * bits (length self.old.trace) + 12) }
+        ensures base { OnOk result (IsKeptAs (moved (made_new position) self.old.base) self.new.base) }
     {
         if !is_position(position, self.count()) {
             return Err(Refused::Position);
@@ -237,6 +258,7 @@ impl Session {
         requires in_range { at ≤ length self.old.trace }
         requires room { length self.old.trace < self.old.limit }
         ensures trace { OnOk result (self.new.trace ≡ insert self.old.trace at line) }
+        ensures base { OnOk result (IsKeptAs (moved (λ origins. insert origins at None) self.old.base) self.new.base) }
         ensures count { IfOk result (λ count. count ≡ length self.new.trace) }
         ensures joins { OnOk result (self.new.joins ≤ 12 * bits (length self.old.trace + 1) + 12) }
         ensures only { IsOkUnless result Refused.Memory }
@@ -247,13 +269,18 @@ impl Session {
         let step = step_of(self.alloc, self.profile, line)?;
         let mut meter = Meter::new();
         let tree = self.tree.insert(self.alloc, &mut meter, at, step)?;
-        Ok(self.take_over(tree, &meter))
+        let last = match self.last.take() {
+            Some(last) => last.inserted(at),
+            None => None,
+        };
+        Ok(self.take_over(tree, last, &meter))
     }
 
     /// Takes the line at a place out.
     fn remove_at(&mut self, at: usize) -> Result<usize, Refused>
         requires { at < length self.old.trace }
         ensures trace { OnOk result (self.new.trace ≡ remove self.old.trace at) }
+        ensures base { OnOk result (IsKeptAs (moved (λ origins. remove origins at) self.old.base) self.new.base) }
         ensures count { IfOk result (λ count. count ≡ length self.new.trace) }
         ensures joins { OnOk result (self.new.joins ≤ 12 * bits (length self.old.trace) + 12) }
         ensures only { IsOkUnless result Refused.Memory }
@@ -263,13 +290,18 @@ impl Session {
     {
         let mut meter = Meter::new();
         let tree = self.tree.remove(self.alloc, &mut meter, at)?;
-        Ok(self.take_over(tree, &meter))
+        let last = match self.last.take() {
+            Some(last) => last.removed(at),
+            None => None,
+        };
+        Ok(self.take_over(tree, last, &meter))
     }
 
     /// Puts a line in place of the one at a place.
     fn replace_at(&mut self, at: usize, line: Line) -> Result<usize, Refused>
         requires { at < length self.old.trace }
         ensures trace { OnOk result (self.new.trace ≡ slice_set self.old.trace at line) }
+        ensures base { OnOk result (IsKeptAs (moved (λ origins. slice_set origins at None) self.old.base) self.new.base) }
         ensures count { IfOk result (λ count. count ≡ length self.new.trace) }
         ensures joins { OnOk result (self.new.joins ≤ 12 * bits (length self.old.trace) + 12) }
         ensures only { IsOkUnless result Refused.Memory }
@@ -280,7 +312,11 @@ impl Session {
         let step = step_of(self.alloc, self.profile, line)?;
         let mut meter = Meter::new();
         let tree = self.tree.replace(self.alloc, &mut meter, at, step)?;
-        Ok(self.take_over(tree, &meter))
+        let last = match self.last.take() {
+            Some(last) => last.replaced(at),
+            None => None,
+        };
+        Ok(self.take_over(tree, last, &meter))
     }
 
     /// The lines as a tree of steps, each a line with the session's profile, and a summary of them all.
@@ -304,15 +340,100 @@ impl Session {
         self.joins
     }
 
-    /// The report of the trace, checked from its first line under the usual start. It fails only when memory runs out.
-    pub fn report(&self) -> Result<Vec<u8>, Refused>
-        ensures report { IfOk result (λ text. text.items ≡ report usual (steps self.now.profile self.now.trace)) }
-        ensures only { IsOkUnless result Refused.Memory }
+    /// What is found in the trace from the usual start.
+    fn found(&self) -> Result<Vec<Found>, cap_tree::NoMemory>
+        ensures { IfOk result (λ found. found.items ≡ check usual (steps self.now.profile self.now.trace)) }
     {
         let start = Start::unknown(self.alloc);
-        let text = self.report_from(&start);
+        let found = self.found_from(&start);
         drop(start);
-        text
+        found
+    }
+
+    /// What is found in the trace from the usual start: where anything is, by the last report, where that is kept and edits
+    /// since touched what few lines rest on, and else in one pass.
+    fn found_from(&self, start: &Start) -> Result<Vec<Found>, cap_tree::NoMemory>
+        requires { start_state start.now ≡ usual }
+        ensures { IfOk result (λ found. found.items ≡ check usual (steps self.now.profile self.now.trace)) }
+    {
+        if let Some(known) = self.tree.summary().known() {
+            if !known.finds(start) {
+                return Ok(Vec::new(self.alloc));
+            }
+        }
+        if let Some(last) = &self.last {
+            let earlier = Earlier {
+                summary: last.tree.summary(),
+                found: last.found.as_slice(),
+                kept: last.origins.runs(),
+            };
+            if let Some(found) = resolve_again(self.alloc, self.tree.summary(), start, &earlier)? {
+                return Ok(found);
+            }
+        }
+        resolve(self.alloc, self.tree.summary(), start)
+    }
+
+    /// Keeps what is found in the trace as the last report. Where memory is refused for that, nothing is kept.
+    fn keep(&mut self, found: Vec<Found>)
+        requires { found.items ≡ check usual (steps self.old.profile self.old.trace) }
+        ensures base { IsKeptAs (Some (base_of self.old.trace)) self.new.base }
+        ensures unchanged { self.new ≡ record self.old { base = self.new.base } }
+    {
+        self.last = LastReport::of(self.alloc, &self.tree, found);
+    }
+
+    /// The report of the trace, checked from its first line under the usual start. It fails only when memory runs out.
+    ///
+    /// It is kept, so that [`changes`](Session::changes) can tell what changed since. Where there is no memory to keep it,
+    /// the report is given all the same.
+    pub fn report(&mut self) -> Result<Vec<u8>, Refused>
+        ensures report { IfOk result (λ text. text.items ≡ report usual (steps self.old.profile self.old.trace)) }
+        ensures only { IsOkUnless result Refused.Memory }
+        ensures base { OnOk result (IsKeptAs (Some (base_of self.old.trace)) self.new.base) }
+        ensures refused { OnErr result (self.new ≡ self.old) }
+        ensures unchanged { self.new ≡ record self.old { base = self.new.base } }
+    {
+        let found = self.found()?;
+        let text = text_of(self.alloc, &self.tree, found.as_slice())?;
+        self.keep(found);
+        Ok(text)
+    }
+
+    /// What went and what came in the report since the last one, that of `report` or of this call: a line for each finding
+    /// that went, as it was, with its position then, after `- `; one for each that came, with its position now, after `+ `;
+    /// and how many there are now. An edit puts in a new line, takes a line out, or makes a line new; the other lines move.
+    /// A finding goes with its line, or where the line has other findings now. It fails only when memory runs out.
+    ///
+    /// Where no last report is kept it answers `all`, and each finding as one that came. None is kept before the first
+    /// report, after a load, where memory was refused for it, and once the lines that stood make more than 4,096 runs: lines
+    /// that stood one after another at that report, and do so now, are one run.
+    pub fn changes(&mut self) -> Result<Vec<u8>, Refused>
+        ensures text { IfOk result (λ text. text.items ≡ changes self.old.profile self.old.base self.old.trace) }
+        ensures only { IsOkUnless result Refused.Memory }
+        ensures base { OnOk result (IsKeptAs (Some (base_of self.old.trace)) self.new.base) }
+        ensures refused { OnErr result (self.new ≡ self.old) }
+        ensures unchanged { self.new ≡ record self.old { base = self.new.base } }
+    {
+        let found = self.found()?;
+        let text = self.changed_to(found.as_slice())?;
+        self.keep(found);
+        Ok(text)
+    }
+
+    /// The text of what changed since the last report, for what is found now.
+    fn changed_to(&self, found: &[Found]) -> Result<Vec<u8>, Refused>
+        requires { found.now ≡ check usual (steps self.now.profile self.now.trace) }
+        ensures text { IfOk result (λ text. text.items ≡ changes self.now.profile self.now.base self.now.trace) }
+        ensures only { IsOkUnless result Refused.Memory }
+    {
+        let Some(last) = &self.last else {
+            return Ok(all_new(self.alloc, &self.tree, found)?);
+        };
+        let changes = last
+            .origins
+            .changes(self.alloc, last.found.as_slice(), found)?;
+        Ok(changed(self.alloc, &last.tree, &self.tree, &changes, found.len())?)
     }
 
     /// The report of the trace, checked from its first line under another start. It fails only when memory runs out.
@@ -352,12 +473,18 @@ impl Session {
         limits_among(self.alloc, self.profile, start, &lines, at)
     }
 
-    /// Whether the report of the trace has no finding. It fails only when memory runs out, and takes none where
-    /// something is known of the whole trace: that is, unless the trace names or refuses much.
+    /// Whether the report of the trace has no finding. Where the last report still stands, that says so. It fails only when
+    /// memory runs out, and takes none where something is known of the whole trace: that is, unless the trace names or
+    /// refuses much.
     pub(crate) fn is_clean(&self) -> Result<bool, cap_tree::NoMemory>
         ensures clean { IfOk result (λ clean. IsTrue clean ↔ (check usual (steps self.now.profile self.now.trace) ≡ [])) }
         ensures few { OnErr result (NameOrRefuseMany (steps self.now.profile self.now.trace)) }
     {
+        if let Some(last) = &self.last {
+            if last.stands() {
+                return Ok(last.found.is_empty());
+            }
+        }
         let start = Start::unknown(self.alloc);
         let clean = self.is_clean_from(&start);
         drop(start);
@@ -447,6 +574,7 @@ impl Session {
         ensures profile { self.new.profile ≡ self.old.profile }
         ensures joins { OnOk result
             (self.new.joins ≤ 12 * bits (lines_at (length self.old.trace) edit.now) + 12) }
+        ensures base { OnOk result (IsKeptAs (moved (origins_after edit.now) self.old.base) self.new.base) }
     {
         match *edit {
             Edit::Insert { position, line } => self.insert(position, line),

@@ -17,6 +17,8 @@ pub type Answer = Result<usize, Refused>;
 #[derive(Drop)]
 pub enum Query {
     Report,
+    /// What changed since the last report.
+    Changes,
     /// The report from the start of the case.
     ReportFrom,
     /// The denials from the start of the case.
@@ -120,13 +122,14 @@ fn reports_after(
 
 /// Whether a session was asked, and answers so.
 fn answers_query(
-    session: &Session,
+    session: &mut Session,
     start: &Start,
     query: &Query,
     answer: Result<&str, Refused>,
 ) -> bool {
     let given = match query {
         Query::Report => session.report(),
+        Query::Changes => session.changes(),
         Query::ReportFrom => session.report_from(start),
         Query::Denials => session.denials(start),
         Query::Limits(at) => session.limits(*at, start),
@@ -226,6 +229,18 @@ const FINDS_TWO: &str =
 
 const FINDS_WRITE: &str = "1 100 write missing 0 CAP_WRITE\nfindings 1\n";
 
+const LACKS_TWO: &str = "3 100 pwrite missing 0 CAP_WRITE|CAP_SEEK\nfindings 1\n";
+
+/// A limit of two rights that a call lacks.
+const SOUGHT: &[u8] =
+    b"100 @start(0,3)\n100 cap_rights_limit(0,CAP_READ) RET 0\n100 pwrite(0) RET 5";
+
+/// A line of another process.
+const OTHER: Edit<'static> = Insert {
+    position: 1,
+    line: b"200 @start(0)",
+};
+
 const FINDS_CLOSED: &str = "4 100 read closed 5\nfindings 1\n";
 
 /// A start, a limit of its rights, and a call.
@@ -260,7 +275,7 @@ const WRITE: Edit<'static> = Insert {
     line: b"100 write(0) RET 1",
 };
 
-static CASES: [Case<'static>; 16] = [
+static CASES: [Case<'static>; 19] = [
     Case {
         name: "the example at the head of the crate",
         limit: 10,
@@ -537,6 +552,169 @@ static CASES: [Case<'static>; 16] = [
             Step::Change(By(WRITE), Ok(1)),
             Step::Ask(Query::ReportFrom, Ok(FINDS_WRITE)),
             Step::Ask(Query::Report, Ok(FINDS_NONE)),
+        ],
+    },
+    Case {
+        name: "what went and what came since the last report",
+        limit: 10,
+        profile: None,
+        start: b"",
+        steps: &[
+            Step::Change(Load(SOUGHT), Ok(3)),
+            Step::Ask(
+                Query::Changes,
+                Ok("all\n+ 3 100 pwrite missing 0 CAP_WRITE|CAP_SEEK\nfindings 1\n"),
+            ),
+            Step::Ask(Query::Changes, Ok("findings 1\n")),
+            Step::Change(By(OTHER), Ok(4)),
+            Step::Ask(Query::Changes, Ok("findings 1\n")),
+            Step::Change(
+                By(Replace {
+                    position: 3,
+                    line: b"100 cap_rights_limit(0,CAP_WRITE) RET 0",
+                }),
+                Ok(4),
+            ),
+            Step::Ask(
+                Query::Changes,
+                Ok(
+                    "- 4 100 pwrite missing 0 CAP_WRITE|CAP_SEEK\n+ 4 100 pwrite missing 0 CAP_SEEK\nfindings 1\n",
+                ),
+            ),
+            Step::Change(
+                By(Replace {
+                    position: 4,
+                    line: b"100 pwrite(0) RET 5",
+                }),
+                Ok(4),
+            ),
+            Step::Ask(
+                Query::Changes,
+                Ok(
+                    "- 4 100 pwrite missing 0 CAP_SEEK\n+ 4 100 pwrite missing 0 CAP_SEEK\nfindings 1\n",
+                ),
+            ),
+            Step::Change(
+                By(Replace {
+                    position: 4,
+                    line: b"100 write(0) RET 1",
+                }),
+                Ok(4),
+            ),
+            Step::Change(
+                By(Replace {
+                    position: 9,
+                    line: b"100 write(0) RET 1",
+                }),
+                Err(Refused::Position),
+            ),
+            Step::Change(
+                By(Replace {
+                    position: 4,
+                    line: b"100 pwrite(0) RET 5",
+                }),
+                Ok(4),
+            ),
+            Step::Ask(
+                Query::Changes,
+                Ok(
+                    "- 4 100 pwrite missing 0 CAP_SEEK\n+ 4 100 pwrite missing 0 CAP_SEEK\nfindings 1\n",
+                ),
+            ),
+            Step::Change(By(Delete { position: 4 }), Ok(3)),
+            Step::Ask(
+                Query::Changes,
+                Ok("- 4 100 pwrite missing 0 CAP_SEEK\nfindings 0\n"),
+            ),
+            Step::Change(
+                By(Insert {
+                    position: 4,
+                    line: b"100 pwrite(0) RET 5",
+                }),
+                Ok(4),
+            ),
+            Step::Ask(
+                Query::Changes,
+                Ok("+ 4 100 pwrite missing 0 CAP_SEEK\nfindings 1\n"),
+            ),
+            Step::Change(By(Delete { position: 4 }), Ok(3)),
+            Step::Change(
+                By(Insert {
+                    position: 4,
+                    line: b"100 pwrite(0) RET 5",
+                }),
+                Ok(4),
+            ),
+            Step::Ask(
+                Query::Changes,
+                Ok(
+                    "- 4 100 pwrite missing 0 CAP_SEEK\n+ 4 100 pwrite missing 0 CAP_SEEK\nfindings 1\n",
+                ),
+            ),
+        ],
+    },
+    Case {
+        name: "other reports leave the last one alone, and a load forgets it",
+        limit: 10,
+        profile: None,
+        start: READING,
+        steps: &[
+            Step::Change(Load(SOUGHT), Ok(3)),
+            Step::Ask(Query::Report, Ok(LACKS_TWO)),
+            Step::Change(By(OTHER), Ok(4)),
+            Step::Ask(
+                Query::Range(1, 4),
+                Ok("4 100 pwrite missing 0 CAP_WRITE|CAP_SEEK\nfindings 1\n"),
+            ),
+            Step::Ask(
+                Query::ReportFrom,
+                Ok("4 100 pwrite missing 0 CAP_WRITE|CAP_SEEK\nfindings 1\n"),
+            ),
+            Step::Ask(Query::Changes, Ok("findings 1\n")),
+            Step::Change(Load(LIMITED), Ok(3)),
+            Step::Ask(
+                Query::Changes,
+                Ok("all\n+ 3 100 write missing 0 CAP_WRITE\nfindings 1\n"),
+            ),
+        ],
+    },
+    Case {
+        name: "runs that meet again",
+        limit: 10,
+        profile: None,
+        start: b"",
+        steps: &[
+            Step::Change(Load(EXPANDED), Ok(4)),
+            Step::Ask(Query::Report, Ok(FINDS_TWO)),
+            Step::Change(
+                By(Insert {
+                    position: 3,
+                    line: b"200 @start(0)",
+                }),
+                Ok(5),
+            ),
+            Step::Change(
+                By(Insert {
+                    position: 2,
+                    line: b"200 @start(0)",
+                }),
+                Ok(6),
+            ),
+            Step::Change(By(Delete { position: 4 }), Ok(5)),
+            Step::Ask(Query::Changes, Ok("findings 2\n")),
+            Step::Change(By(Delete { position: 2 }), Ok(4)),
+            Step::Change(
+                By(Replace {
+                    position: 1,
+                    line: b"100 @start(0,3)",
+                }),
+                Ok(4),
+            ),
+            Step::Change(By(Delete { position: 3 }), Ok(3)),
+            Step::Ask(
+                Query::Changes,
+                Ok("- 4 100 cap_rights_limit expanded 0 CAP_WRITE\nfindings 1\n"),
+            ),
         ],
     },
 ];

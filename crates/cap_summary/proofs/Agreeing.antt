@@ -3,9 +3,12 @@ use Rattle.std.specs.Prelude.{OnOk, Result, false, if◌then◌else◌, length, 
 use Rattle.cap_summary.specs.{Positions.AreNoted, declared.judging.Asked.Asked, declared.last_steps.LastSteps.LastSteps}
 use Rattle.cap_summary.specs.{Check, Finding, Positions.AgreeAfter, Positions.AreJudged, Positions.last_of, requirement}
 use Rattle.cap_summary.specs.{Answer, Found, State, Touch, Unknown, [], applied, ended, follows, given, listed, touched}
+use Rattle.cap_summary.specs.{check, found_at, later, Positions.found_in, Positions.within}
+use Rattle.cap_summary.specs.{Rc, values}
+use Rattle.cap_summary.proofs.{append-nil, length-map}
 use Rattle.cap_summary.specs.{Bool, Cell, Item, List, Mode, Step, kept, map, said, stays, taken, touch, turns, ℕ}
 use Rattle.cap_summary.proofs.{Resolving.found_outside, Resolving.found_parts, Resolving.same_beyond, ap, length-append}
-use Rattle.cap_summary.proofs.{arith, cases_lt, ends_in_turn, fun_ext, inl, inr, ne_eqb, on_ok_weaker, subst, sym, ◌∙◌}
+use Rattle.cap_summary.proofs.{arith, cases_lt, checks_in_turn, ends_in_turn, fun_ext, inl, inr, ne_eqb, on_ok_weaker, subst, sym, ◌∙◌}
 use Rattle.cap_trace.specs.Call.{Call}
 use Rattle.cap_machine.specs.{History.turned, Judge.judged, State.with_listed, Touch.call_turn, Touch.item_turn}
 use Rattle.cap_machine.proofs.NamedFds.{named_sources}
@@ -95,31 +98,85 @@ agree_same last at s = record { cells = λ p f lt. refl; modes = λ p lt. refl }
 
 -- some that are beyond the last position that is asked for
 pub none_judged : (last : LastSteps) (asked : Asked) (at : ℕ) (t : List Step) (s r : State) (old : List Found)
-    → asked.to ≤ at → AgreeAfter last at s r → AreJudged last asked at t s r old old
-none_judged last asked at [] s r old beyond agree = record {
-  found = found_outside asked at s [] old (inr beyond);
-  agree = λ ends. subst (λ n. AgreeAfter last n s r) (omega arith) agree;
-}
-none_judged last asked at (step ∷ t) s r old beyond agree = record {
-  found = found_outside asked at s (step ∷ t) old (inr beyond);
-  agree = λ ends. absurd (omega (arith, ends, beyond));
+    → asked.to ≤ at → AreJudged last asked at t s r old old
+none_judged last asked at t s r old beyond = record {
+  found = found_outside asked at s t old (inr beyond);
+  agree = λ more. absurd (omega (arith, more, beyond));
 }
 
 pub judged_both : {X E : Type 0} (result : Result X E) (last : LastSteps) (asked : Asked) (at n : ℕ) (t u : List Step)
     (s mid r : State) (old some new : List Found) → n ≡ length t → AreJudged last asked at t s mid old some
     → ((s : State) → AgreeAfter last (at + n) s mid → OnOk result (AreJudged last asked (at + n) u s r some new))
     → OnOk result (AreJudged last asked at (t ++ u) s r old new)
-judged_both result last asked at n t u s mid r old some new len first rest = elim (cases_lt asked.to (at + n)) [
-  | inl beyond ↦ on_ok_weaker result (λ done. record {
-    found = found_parts asked at n s t u old some new len first.found
-        (done.found ∙ ap (λ r. some ++ r) (same_beyond asked (at + n) mid (ended s t) u beyond));
-    agree = λ ends. absurd (omega (arith, length-append t u, len, beyond, ends));
-  }) (rest mid (agree_same last (at + n) mid))
-  | inr before ↦ on_ok_weaker result (λ done. record {
+judged_both result last asked at n t u s mid r old some new len first rest = elim (cases_lt (at + n) asked.to) [
+  | inl before ↦ on_ok_weaker result (λ done. record {
     found = found_parts asked at n s t u old some new len first.found done.found;
-    agree = λ ends.
-        let agree = done.agree (omega (arith, length-append t u, len, ends)) in
+    agree = λ more.
+        let agree = done.agree (omega (arith, length-append t u, len, more)) in
         let size : at + n + length u ≡ at + length (t ++ u) = omega (arith, length-append t u, len) in
         rw (← size, ends_in_turn s t u) agree;
   }) (rest (ended s t) (rw len (first.agree (omega (arith, len, before)))))
+  | inr beyond ↦ on_ok_weaker result (λ done. record {
+    found = found_parts asked at n s t u old some new len first.found
+        (done.found ∙ ap (λ r. some ++ r) (same_beyond asked (at + n) mid (ended s t) u beyond));
+    agree = λ more. absurd (omega (arith, length-append t u, len, beyond, more));
+  }) (rest mid (agree_same last (at + n) mid))
 ]
+
+-- all steps from two states
+pub agree_steps : (last : LastSteps) (at : ℕ) (t : List Step) (s r : State) → AreNoted last at t → AgreeAfter last at s r
+    → AgreeAfter last (at + length t) (ended s t) (ended r t)
+agree_steps last at [] s r noted agree = subst (λ n. AgreeAfter last n s r) (omega arith) agree
+agree_steps last at (step ∷ t) s r noted agree =
+    let next = agree_steps last (at + 1) t (ended s (step ∷ [])) (ended r (step ∷ [])) noted.1
+    (agree_next last at s r step noted.0 agree) in
+    let size : at + 1 + length t ≡ at + length (step ∷ t) = omega arith in
+    rw (← size, ends_in_turn s (step ∷ []) t, ends_in_turn r (step ∷ []) t) next
+
+-- one step, and the rest of a run
+pub agree_run : {Z : Type 0} (last : LastSteps) (at : ℕ) (s : State) (step : Step) (run rest : List (Rc Step Z)) (r : State)
+    → values run ≡ step ∷ values rest
+    → AgreeAfter last (at + 1 + length rest) (ended (ended s (step ∷ [])) (values rest)) r
+    → AgreeAfter last (at + length run) (ended s (values run)) r
+agree_run last at s step run rest r is agree =
+    let size : at + length run ≡ at + 1 + length rest = omega (
+      arith,
+      length-map run (λ item. item.value),
+      length-map rest (λ item. item.value),
+      ap (λ (l : List Step). length l) is,
+    ) in
+    rw (size, is, ends_in_turn s (step ∷ []) (values rest)) agree
+
+pub same_check : (last : LastSteps) (at : ℕ) (t : List Step) (s r : State) → AreNoted last at t → AgreeAfter last at s r
+    → check s t ≡ check r t
+same_check last at [] s r noted agree = refl
+same_check last at (step ∷ t) s r noted agree =
+    let next = same_check last (at + 1) t (ended s (step ∷ [])) (ended r (step ∷ [])) noted.1
+    (agree_next last at s r step noted.0 agree) in
+    checks_in_turn s (step ∷ []) t
+    ∙ ap (λ (says : List Finding). map (found_at 1) says ++ map (later 1) (check (ended s (step ∷ [])) t))
+    (same_said last at s r step noted.0 agree)
+    ∙ ap (λ (rest : List Found). check r (step ∷ []) ++ map (later 1) rest) next ∙ sym (checks_in_turn r (step ∷ []) t)
+
+pub same_found : (last : LastSteps) (asked : Asked) (at : ℕ) (t : List Step) (s r : State) → AreNoted last at t
+    → AgreeAfter last at s r → found_in asked at s t ≡ found_in asked at r t
+same_found last asked at t s r noted agree =
+    ap (λ (found : List Found). within asked.from asked.to (map (later at) found)) (same_check last at t s r noted agree)
+
+pub agree_trans : (last : LastSteps) (at : ℕ) (s r q : State) → AgreeAfter last at s r → AgreeAfter last at r q
+    → AgreeAfter last at s q
+agree_trans last at s r q one two = record {
+  cells = λ p f lt. one.cells p f lt ∙ two.cells p f lt;
+  modes = λ p lt. one.modes p lt ∙ two.modes p lt;
+}
+
+-- steps in which nothing is found that is asked for
+pub passed : (last : LastSteps) (asked : Asked) (at n : ℕ) (t : List Step) (s r q : State) (old : List Found)
+    → n ≡ length t → AreNoted last at t → AgreeAfter last at s r → found_in asked at r t ≡ []
+    → (at + n < asked.to → AgreeAfter last (at + n) (ended r t) q) → AreJudged last asked at t s q old old
+passed last asked at n t s r q old len noted agree none moved = record {
+  found = sym (append-nil old)
+      ∙ ap (λ (found : List Found). old ++ found) (sym (same_found last asked at t s r noted agree ∙ none));
+  agree = λ more. agree_trans last (at + length t) (ended s t) (ended r t) q (agree_steps last at t s r noted agree)
+      (rw len at moved more);
+}

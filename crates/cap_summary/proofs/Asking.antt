@@ -3,7 +3,7 @@ use Rattle.std.specs.Prelude.{if◌then◌else◌, ◌∷◌, ◌≡◌}
 use Rattle.cap_summary.proofs.{TestPassing.none_lacks, TestPassing.own_rights, ap, arith, inl, inr, or_cases, ◌∙◌}
 use Rattle.cap_summary.specs.{Closed, Unknown, declared.ask.Ask.Ask, declared.key.Key.Key, has_all, list_all, list_any}
 use Rattle.cap_summary.specs.{Bool, Cell, Held, List, OnExec, State, [], false, none, refl, true, ℕ}
-use Rattle.cap_summary.specs.Asks.{IsOpen, each_kind, has_kind, holding, is_sure, passes, standing}
+use Rattle.cap_summary.specs.Asks.{each_kind, has_kind, holding, is_sure, passes, standing}
 use Rattle.cap_summary.specs.Keys.{Cells, cell_mode, cells_of}
 
 -- a state of chosen cells, with these rights where they are held
@@ -59,19 +59,12 @@ fails_somewhere p k a is =
       ap (passes a) (stands a.rights cells p k) ∙ failing_fails (is_sure a k) each_kind is,
     )
 
-holds_somewhere : (p : ℕ) (k : Key) (a : Ask) → list_any (λ (c : Cell). passes a (standing none k c)) each_kind ≡ true
+pub holds_somewhere : (p : ℕ) (k : Key) (a : Ask) → list_any (λ (c : Cell). passes a (standing none k c)) each_kind ≡ true
     → (s : State) × (passes a (cells_of s p k) ≡ true)
 holds_somewhere p k a is =
     let one = passing (λ (c : Cell). passes a (standing none k c)) each_kind is in
     let cells : Cells = λ q j. one.0 in
     (chosen none cells, ap (passes a) (stands none cells p k) ∙ one.1)
-
-pub is_open : (ask : Ask) → list_all (is_sure ask ask.key) each_kind ≡ false
-    → list_any (λ (c : Cell). passes ask (standing none ask.key c)) each_kind ≡ true → IsOpen ask
-is_open ask certain possible = record {
-  holds = holds_somewhere ask.pid ask.key ask possible;
-  fails = fails_somewhere ask.pid ask.key ask certain;
-}
 
 -- ---- in no state
 -- a held cell fails where one that holds no rights does

@@ -65,7 +65,7 @@ beq_true false true is = absurd cc
 beq_true false false is = refl
 
 -- ---- effects
-same_cell : (a b : Cell) → cells.eq-value.it a b ≡ true → a ≡ b
+pub same_cell : (a b : Cell) → cells.eq-value.it a b ≡ true → a ≡ b
 same_cell a b is = search rules
 
 same_held : (a b : HeldOp) → helds.eq-value.it a b ≡ true → a ≡ b

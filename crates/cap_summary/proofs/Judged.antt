@@ -1,8 +1,11 @@
 -- What was judged of a run so far, and how many steps are judged at least for what is found.
-use Rattle.std.specs.Prelude.{Bool, List, [], cond, length, map, nat_le, refl, ℕ, ◌&&◌, ◌++◌, ◌+◌, ◌∷◌, ◌≡◌, ◌≤◌}
-use Rattle.cap_summary.proofs.{ap, append-nil, arith, eq-eqb, length-map, sym, ◌∙◌}
+use Rattle.std.specs.Prelude.{if◌then◌else◌, true, false, ◌==◌, ◌<◌, Bool, List, [], cond, length, map, nat_le, refl, ℕ, ◌&&◌, ◌++◌, ◌+◌, ◌∷◌, ◌≡◌, ◌≤◌}
+use Rattle.cap_summary.proofs.{All-head, All-tail, checks_in_turn, eqb-true, ne_eqb, ap, append-nil, arith, eq-eqb, length-map, sym, ◌∙◌}
 use Rattle.cap_summary.proofs.Resolving.{found_all, found_parts, one_found, said_at}
 use Rattle.cap_machine.proofs.Turns.{same_state}
+use Rattle.cap_machine.proofs.Positions.{positions_within}
+use Rattle.std.proofs.lemmas.List.Elements.{All-map}
+use Rattle.cap_summary.specs.{All, Asks.has_any, check, later}
 use Rattle.cap_summary.specs.{Effects.changed, Keys.Cells, Keys.cell_mode, Keys.cells_of, Keys.mode_cell, Keys.state_of}
 use Rattle.cap_summary.specs.{Finding, Found, Knows.Knows, Mode, Rc, State, Step, ended, found_at, said, values}
 use Rattle.cap_summary.specs.Positions.{WereJudged, found_in, positions, said_in, starts}
@@ -92,3 +95,53 @@ run_judged old new asked at s run found judged = rw found (omega (
   length-map run (λ item. item.value),
   judged,
 ))
+
+-- ---- at how many positions something is found, in two parts
+
+starts-apart : (n : ℕ) (x : Found) (xs ys : List Found) → x.at ≤ n → All (λ (y : Found). n < y.at) ys
+    → starts x (xs ++ ys) ≡ starts x xs
+starts-apart n x [] [] low high = refl
+starts-apart n x [] (y ∷ ys) low high =
+    let above : n < y.at = All-head (λ (y : Found). n < y.at) y ys high in
+    rw (ne_eqb x.at y.at (λ is. omega (arith, low, above, is))) refl
+starts-apart n x (z ∷ xs) ys low high = refl
+
+positions-apart : (n : ℕ) (xs ys : List Found) → All (λ (x : Found). x.at ≤ n) xs → All (λ (y : Found). n < y.at) ys
+    → positions (xs ++ ys) ≡ positions xs + positions ys
+positions-apart n [] ys low high = omega arith
+positions-apart n (x ∷ xs) ys low high =
+    let here : x.at ≤ n = All-head (λ (x : Found). x.at ≤ n) x xs low in
+    let rest = positions-apart n xs ys (All-tail (λ (x : Found). x.at ≤ n) x xs low) high in
+    omega (arith, starts-apart n x xs ys here high, rest)
+
+same_distance : (n a b : ℕ) → (n + a == n + b) ≡ (a == b)
+same_distance n a b = by (a == b) refl
+  where
+    by : (r : Bool) → (a == b) ≡ r → (n + a == n + b) ≡ r
+    by true is = eq-eqb (n + a) (n + b) (ap (λ (m : ℕ). n + m) (eqb-true a b is))
+    by false is = ne_eqb (n + a) (n + b) (λ same. absurd (let wrong : true ≡ false =
+        sym (eq-eqb a b (omega (arith, same))) ∙ is in cc))
+
+starts-later : (n : ℕ) (x : Found) (xs : List Found) → starts (later n x) (map (later n) xs) ≡ starts x xs
+starts-later n x [] = refl
+starts-later n x (y ∷ xs) = ap (λ (b : Bool). if b then 0 else 1) (same_distance n x.at y.at)
+
+positions-later : (n : ℕ) (xs : List Found) → positions (map (later n) xs) ≡ positions xs
+positions-later n [] = refl
+positions-later n (x ∷ xs) = omega (arith, starts-later n x xs, positions-later n xs)
+
+pub positions_parts : (s : State) (t u : List Step)
+    → positions (check s (t ++ u)) ≡ positions (check s t) + positions (check (ended s t) u)
+positions_parts s t u =
+    let second : List Found = check (ended s t) u in
+    ap positions (checks_in_turn s t u)
+    ∙ positions-apart (length t) (check s t) (map (later (length t)) second)
+    (λ k d lt. (positions_within s t k d lt).1)
+    (All-map (λ (y : Found). length t < y.at) (later (length t)) second
+    (λ k d lt. let is = positions_within (ended s t) u k d lt in omega (arith, is.0)))
+    ∙ ap (λ (n : ℕ). positions (check s t) + n) (positions-later (length t) second)
+
+pub some_positions : (xs : List Found) → has_any xs ≡ true → 0 < positions xs
+some_positions [] some = absurd (let wrong : false ≡ true = some in cc)
+some_positions (x ∷ []) some = omega arith
+some_positions (x ∷ y ∷ xs) some = omega (arith, some_positions (y ∷ xs) refl)

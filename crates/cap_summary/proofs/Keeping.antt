@@ -111,7 +111,7 @@ node_keeps known (Some kept) t knows settled is = record {
 
 pub keeps_parts : (known kept : Option Known) (content : Content) (n : ℕ) → KeepsParts known content
     → IfSome kept (λ kept. (known ≡ Some kept) × IsWithin kept n) → KeepsParts kept content
-keeps_parts known None (Run run) n keeps is = tt
+keeps_parts known None (Run run pids) n keeps is = tt
 keeps_parts known None (Both a b) n keeps is = tt
 keeps_parts known (Some kept) content n keeps is = rw is.0 at keeps
 
@@ -162,3 +162,8 @@ many_both t u first second one other have =
 
 -- why nothing is kept of two parts
 pub ruleset many = (many_first, many_second, many_both)
+
+-- what holds where something is known
+pub where_known : (known : Option Known) (P : Type 0) → is_some known ≡ true → IfSome known (λ k. P) → P
+where_known None P is holds = absurd (let wrong : false ≡ true = is in cc)
+where_known (Some known) P is holds = holds

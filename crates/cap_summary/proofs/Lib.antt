@@ -2,7 +2,10 @@ pub mod Common
 pub mod Bools
 pub mod TestPassing
 pub mod Asking
+pub mod Agreed
 pub mod Together
+pub mod Apart
+pub mod Searching
 pub mod Uniting
 pub mod SortedFound
 pub mod SortedMerging
@@ -12,6 +15,8 @@ pub mod Naming
 pub mod Meeting
 pub mod Pulling
 pub mod Equal
+pub mod LastPlaces
+pub mod Taking
 pub mod Runs
 pub mod Knowing
 pub mod Keeping

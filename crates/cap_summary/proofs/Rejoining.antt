@@ -5,7 +5,7 @@ use Rattle.cap_summary.specs.{Effects.changed, Keys.Cells, Similarity, Sorted.fo
 use Rattle.cap_summary.specs.Composing.{AreAlike, IsComposedSo, IsJoined, IsJoinedEffect}
 use Rattle.cap_summary.specs.declared.precondition.Precondition.{Precondition}
 use Rattle.cap_tree.specs.declared.similarity.Side.{Side}
-use Rattle.cap_summary.specs.Preconditions.{AllSaid, IsAskedByBoth, IsSamePrecondition, Saying, is_met}
+use Rattle.cap_summary.specs.Preconditions.{AgreeIn, AllSaid, IsAskedByBoth, IsSamePrecondition, Saying, is_met}
 
 same_cells : (a b : Effect) → a.rows ≡ b.rows → (cells : Cells) → changed a cells ≡ changed b cells
 same_cells a b same cells = ap (λ rows. λ p k. cell_in cells (found rows p) p k) same
@@ -29,6 +29,9 @@ second_effect first was later old same joined = record { rows = λ p. rw same at
 same_met : (a b : Precondition) → IsSamePrecondition a b → (cells : Cells) → is_met cells a ≡ is_met cells b
 same_met a b same cells = rw (same.certain, same.asks, same.refusals) refl
 
+agree_back : (a b : Precondition) → IsSamePrecondition a b → (s r : Cells) → AgreeIn s r a → AgreeIn s r b
+agree_back a b same s r is = record { asks = rw same.asks at is.asks; refusals = rw same.refusals at is.refusals }
+
 said_back : (a b : Precondition) → IsSamePrecondition a b → (said : Saying) → AllSaid said b → AllSaid said a
 said_back a b same said is = record { asks = rw same.asks is.asks; refusals = rw same.refusals is.refusals }
 
@@ -40,6 +43,11 @@ first_asks was first own new later old effect same asked = record {
     met = λ s. asked.with.met s
         ∙ ap (λ r. r || is_met (changed was (cells_of s)) later) (same_met own new same (cells_of s))
         ∙ ap (λ (c : Cells). is_met (cells_of s) new || is_met c later) (same_cells was first effect (cells_of s));
+    agree = λ s r is.
+        let two = asked.with.agree s r is in (
+          agree_back own new same (cells_of s) (cells_of r) two.0,
+          rw (same_cells was first effect (cells_of s), same_cells was first effect (cells_of r)) at two.1,
+        );
     each = λ said one other mine. asked.with.each said (rw effect one) other (said_back own new same said mine);
     few = rw (same.asks, same.refusals) at asked.with.few;
     refusals = rw same.refusals at asked.with.refusals;
@@ -53,6 +61,9 @@ second_asks first own was later old same asked = record {
   with = record {
     met = λ s. asked.with.met s
         ∙ ap (λ r. is_met (cells_of s) own || r) (same_met was later same (changed first (cells_of s)));
+    agree = λ s r is.
+        let two = asked.with.agree s r is in
+        (two.0, agree_back was later same (changed first (cells_of s)) (changed first (cells_of r)) two.1);
     each = λ said one other mine. asked.with.each said one (said_back was later same said other) mine;
     few = rw (same.asks, same.refusals) at asked.with.few;
     refusals = rw same.refusals at asked.with.refusals;

@@ -1,12 +1,12 @@
 -- Findings of segments, one after the other.
-use Rattle.std.specs.Prelude.{filter, get_or, length, nat_le, ◌&&◌, ◌*◌, ◌++◌, ◌+◌, ◌-◌, ◌/◌, ◌<◌, ◌∷◌, ◌≡◌, ◌≤◌, ◌⊎◌}
+use Rattle.std.specs.Prelude.{filter, get_or, length, nat_le, ◌&&◌, ◌++◌, ◌+◌, ◌-◌, ◌<◌, ◌∷◌, ◌≡◌, ◌≤◌, ◌⊎◌}
 use Rattle.cap_summary.specs.{Asks.has_any, Finding, Found, State, check, declared.judging.Asked.Asked, ended, found_at}
-use Rattle.cap_summary.specs.{All, Bool, List, Step, [], cond, drop, false, later, map, not, refl, said, take, true, ℕ}
-use Rattle.cap_summary.specs.Positions.{AllOrMany, found_in, is_at, said_in, within}
-use Rattle.cap_summary.proofs.{and-false, append_assoc, checks_in_turn, length-append, length-take-le, take-append-drop}
-use Rattle.cap_summary.proofs.{All-head, All-tail, append-nil, cases_lt, length-map, map-append, take_all, take_more}
+use Rattle.cap_summary.specs.{All, Bool, List, Step, [], cond, drop, false, later, map, refl, said, take, true, ℕ}
+use Rattle.cap_summary.specs.Positions.{found_in, is_at, said_in, within}
+use Rattle.cap_summary.proofs.{and-false, append_assoc, checks_in_turn, length-take-le, take-append-drop}
+use Rattle.cap_summary.proofs.{All-head, All-tail, append-nil, cases_lt, map-append, take_all, take_more}
 use Rattle.cap_summary.proofs.{ap, arith, inl, inr, sym, ◌∙◌}
-use Rattle.std.proofs.{Common.length-take, lemmas.List.Elements.filter-append, lemmas.List.Filters.length-filter_both}
+use Rattle.std.proofs.{Common.length-take, lemmas.List.Elements.filter-append}
 use Rattle.std.proofs.{Common.add_assoc, Common.le-leb, lemmas.Bool.lt-leb, lemmas.List.Elements.All-map}
 use Rattle.cap_machine.proofs.Positions.{positions_within}
 
@@ -16,7 +16,7 @@ later-later m n (x ∷ xs) =
     ap (λ (k : ℕ). record { at = k; finding = x.finding } ∷ map (later m) (map (later n) xs)) (sym (add_assoc m n x.at))
     ∙ ap (λ (r : List Found). later (m + n) x ∷ r) (later-later m n xs)
 
-later-at : (n i : ℕ) (xs : List Finding) → map (later n) (map (found_at i) xs) ≡ map (found_at (n + i)) xs
+pub later-at : (n i : ℕ) (xs : List Finding) → map (later n) (map (found_at i) xs) ≡ map (found_at (n + i)) xs
 later-at n i [] = refl
 later-at n i (x ∷ xs) = ap (λ r. found_at (n + i) x ∷ r) (later-at n i xs)
 
@@ -44,25 +44,6 @@ pub one_found : (asked : Asked) (at : ℕ) (s : State) (step : Step)
     → said_in asked (at + 1) (said step s) ≡ found_in asked at s (step ∷ [])
 one_found asked at s step = ap (within asked.from asked.to) (sym (later-at at 1 (said step s)))
 
-pub not_many : (most : ℕ) (found all : List Found) → AllOrMany most found all → length found ≤ most → found ≡ all
-not_many most found all is few = grind (arith, is, few)
-
--- what stopped in the first part
-pub stopped : (most : ℕ) (found first second : List Found) → AllOrMany most found first → most < length found
-    → AllOrMany most found (first ++ second)
-stopped most found first second (inl is) many =
-    inr (many, omega (arith, ap length is, length-append first second))
-stopped most found first second (inr are) many =
-    inr (many, omega (arith, are.1, length-append first second))
-
--- how many are found in two parts, and that some are
-pub many_parts : (s : State) (t u : List Step)
-    → length (check s (t ++ u)) ≡ length (check s t) + length (check (ended s t) u)
-many_parts s t u =
-    let second : List Found = check (ended s t) u in
-    ap length (checks_in_turn s t u) ∙ length-append (check s t) (map (later (length t)) second)
-    ∙ ap (λ n. length (check s t) + n) (length-map second (later (length t)))
-
 pub some_found : (xs : List Found) → has_any xs ≡ true → 0 < length xs
 some_found xs is = grind (arith, is)
 
@@ -80,7 +61,7 @@ alike p false (x ∷ xs) all = rw (All-head (λ y. p y ≡ false) x xs all)
     (alike p false xs (All-tail (λ y. p y ≡ false) x xs all))
 
 -- nothing of a segment is at positions before it or after it
-not_within : (asked : Asked) (at : ℕ) (s : State) (t : List Step) → (at + length t < asked.from) ⊎ (asked.to ≤ at)
+pub not_within : (asked : Asked) (at : ℕ) (s : State) (t : List Step) → (at + length t < asked.from) ⊎ (asked.to ≤ at)
     → found_in asked at s t ≡ []
 not_within asked at s t out = alike (is_at asked.from asked.to) false (map (later at) (check s t))
     (All-map (λ x. is_at asked.from asked.to x ≡ false) (later at) (check s t)
@@ -163,21 +144,7 @@ found_next asked n s t step old new short is one two =
     ∙ ap (found_in asked 0 s) (sym (take_more t n step short ∙ ap (λ (x : Step). before ++ x ∷ []) is))
 
 -- where nothing is asked for after a part, it doesn't matter in which state the next one begins
-pub same_beyond : (asked : Asked) (at : ℕ) (s r : State) (t : List Step) → asked.to < at
+pub same_beyond : (asked : Asked) (at : ℕ) (s r : State) (t : List Step) → asked.to ≤ at
     → found_in asked at s t ≡ found_in asked at r t
 same_beyond asked at s r t beyond =
-    not_within asked at s t (inr (omega arith)) ∙ sym (not_within asked at r t (inr (omega arith)))
-
--- how many steps are judged where many findings are looked up, and then all steps are judged
-among_all : (from to : ℕ) (all : List Found) → length (within from to all) ≤ length all
-among_all from to all =
-    let both = length-filter_both (is_at from to) (λ x. not (is_at from to x)) (λ x. refl) all in
-    omega (arith, both)
-
-pub judged_all : (most n judged both from to : ℕ) (found all : List Found) → most ≡ n / 2048 → most < length found
-    → AllOrMany most found (within from to all) → judged ≤ 48 * length all → both ≤ judged + n
-    → both ≤ 2096 * length all
-judged_all most n judged both from to found all is many (inl same) few then =
-    omega (arith, ap length same, among_all from to all)
-judged_all most n judged both from to found all is many (inr are) few then =
-    omega (arith, are.1, among_all from to all)
+    not_within asked at s t (inr beyond) ∙ sym (not_within asked at r t (inr beyond))

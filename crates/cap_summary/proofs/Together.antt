@@ -8,7 +8,7 @@ use Rattle.cap_summary.specs.{Keys.Cells, Keys.cells_of, declared.ask.Ask.Ask, d
 use Rattle.cap_summary.specs.{Cell, Held, OnExec, State, has_all, join, none}
 use Rattle.cap_summary.specs.Asks.{any_holds, are_sure_at, each_kind, holds, is_sure, key_number, passes}
 
-same_key : (j k : Key) → key_number j ≡ key_number k → j ≡ k
+pub same_key : (j k : Key) → key_number j ≡ key_number k → j ≡ k
 same_key j k is = grind (arith, is)
 
 -- an ask that surely passes the cell of a state holds there

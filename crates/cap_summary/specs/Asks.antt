@@ -1,5 +1,5 @@
 -- What is asked of the cells before a segment, or before one line: tests of single cells.
-use Rattle.std.specs.Prelude.{if◌then◌else◌, ◌%◌, ◌&&◌, ◌*◌, ◌+◌, ◌==◌, ◌^◌, ◌||◌, ◌∷◌, ◌≡◌, ◌≤◌}
+use Rattle.std.specs.Prelude.{if◌then◌else◌, ◌%◌, ◌&&◌, ◌*◌, ◌+◌, ◌==◌, ◌^◌, ◌||◌, ◌∷◌, ◌≡◌, ◌≤◌, ◌⊎◌}
 use Rattle.cap_summary.specs.{Check, LimitWord, Names.Names, Names.has_cell, NotCapable, Unknown, list_any, requirement}
 use Rattle.cap_summary.specs.{Bool, Cell, Clear, Closed, Held, List, State, Step, Unsure, bit_at, false, fault, has_all}
 use Rattle.cap_summary.specs.{All, Set, [], min, none, not, take, true, ℕ}
@@ -67,10 +67,25 @@ any_holds cells asks = list_any (holds cells) asks
 abbrev pub asks_of : UpToThree → List Ask
 asks_of three = take (min three.count 3) three.asks
 
+-- an ask holds in some state, or fails in some
+abbrev pub CanHold : Ask → Type 0
+CanHold ask = (s : State) × (holds (cells_of s) ask ≡ true)
+
+abbrev pub CanFail : Ask → Type 0
+CanFail ask = (s : State) × (holds (cells_of s) ask ≡ false)
+
 -- whether an ask holds depends on the state
 pub record IsOpen (ask : Ask) : Type 0 where
-  pub fails : (s : State) × (holds (cells_of s) ask ≡ false)
-  pub holds : (s : State) × (holds (cells_of s) ask ≡ true)
+  pub fails : CanFail ask
+  pub holds : CanHold ask
+
+-- two cells are one to an ask that tests them: they are the same, or it passes neither
+abbrev pub AreOneTo : Ask → Cell → Cell → Type 0
+AreOneTo ask a b = (a ≡ b) ⊎ ((passes ask a ≡ false) × (passes ask b ≡ false))
+
+-- two states agree on an ask: its cell is the same in both, or it holds in neither
+abbrev pub AgreeOn : Cells → Cells → Ask → Type 0
+AgreeOn s r ask = AreOneTo ask (s ask.pid ask.key) (r ask.pid ask.key)
 
 -- an ask that was pulled back holds
 abbrev pub pulled_holds : Cells → Pulled → Bool
@@ -124,6 +139,12 @@ abbrev pub asked_holds : Cells → LineAsks → Bool
 asked_holds cells LineAsks.Always = true
 asked_holds cells (LineAsks.Where asks) = any_holds cells (asks_of asks)
 asked_holds cells (LineAsks.Unless asks) = not (any_holds cells (asks_of asks))
+
+-- two states agree on what it asks: on each ask of it, or a refusal is wrongful in both or in neither
+abbrev pub AgreeOnLine : Cells → Cells → LineAsks → Type 0
+AgreeOnLine s r LineAsks.Always = Unit {0}
+AgreeOnLine s r (LineAsks.Where asks) = All (AgreeOn s r) (asks_of asks)
+AgreeOnLine s r (LineAsks.Unless asks) = not (any_holds s (asks_of asks)) ≡ not (any_holds r (asks_of asks))
 
 -- its asks
 abbrev pub asks_in : LineAsks → List Ask

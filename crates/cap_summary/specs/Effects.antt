@@ -51,6 +51,7 @@ changed effect cells p k = cell_in cells (found effect.rows p) p k
 -- the state after a start and effects
 abbrev pub state_before : Before → State
 state_before (Before.At start) = start_state start.now
+state_before (Before.Now machine) = start_state machine.now
 state_before (Before.After' p before effect) = state_of (changed effect.now (cells_of (state_before before)))
 
 -- ---- what no line of a segment touches, as far as is known; a cell that came back by a fork is touched

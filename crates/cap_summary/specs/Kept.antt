@@ -1,6 +1,6 @@
 -- What is kept of steps, where it is little or they don't name much and few were refused; and what holds of each node.
 use Rattle.std.specs.Prelude.{IfSome, List, Option, is_some, length, ◌*◌, ◌++◌, ◌+◌, ◌<◌, ◌==◌, ◌^◌, ◌≡◌, ◌≤◌, ◌⊎◌}
-use Rattle.cap_summary.specs.{Composing.NodeView, Keys.rows_size, Asks.refused, Names.AreAmong, Names.names_in, min}
+use Rattle.cap_summary.specs.{Asks.refused, Composing.NodeView, Keys.rows_size, Lasts.pids_of, Names.AreAmong, Names.names_in, min}
 use Rattle.cap_summary.specs.{Bool, IfNone, Keys.AllRise, Knows.Knows, Names.Names, Step, list_any, true, values, ℕ}
 use Rattle.cap_summary.specs.declared.{known.Known.Known, node.Content.Content}
 use Rattle.cap_summary.specs.Preconditions.{IsSettled, size}
@@ -49,20 +49,25 @@ NameOrRefuseMany t =
 
 -- the steps of a node, from the first
 abbrev pub content_steps : Content → List Step
-content_steps (Content.Run run) = values run.items
+content_steps (Content.Run run pids) = values run.items
 content_steps (Content.Both a b) = a.value.steps ++ b.value.steps
 
 -- a run is short, and a node of two parts has steps in both
 abbrev pub HasParts : Content → Type 0
-HasParts (Content.Run run) = length run.items ≤ 48
+HasParts (Content.Run run pids) = length run.items ≤ 48
 HasParts (Content.Both a b) = (0 < length a.value.steps) × (0 < length b.value.steps)
+
+-- a run lists the process of each of its steps
+abbrev pub ListsProcesses : Content → Type 0
+ListsProcesses (Content.Run run pids) = pids.items ≡ pids_of (values run.items)
+ListsProcesses (Content.Both a b) = Unit {0}
 
 -- where what is known of a node is kept, it is kept of both parts
 abbrev pub AreKept : NodeView → NodeView → Type 0
 AreKept a b = (is_some a.known ≡ true) × (is_some b.known ≡ true)
 
 abbrev pub KeepsParts : Option Known → Content → Type 0
-KeepsParts kept (Content.Run run) = Unit {0}
+KeepsParts kept (Content.Run run pids) = Unit {0}
 KeepsParts kept (Content.Both a b) = IfSome kept (λ known. AreKept a.value b.value)
 
 -- A node stands for a list of steps: it has just these; what it keeps says of them the state after, and whether something
@@ -76,6 +81,7 @@ pub record StandsFor (n : NodeView) (t : List Step) : Type 0 where
 pub record IsGood (size : ℕ) (kept : Option Known) (content : Content) : Type 0 where
   pub len : size ≡ length (content_steps content)
   pub parts : HasParts content
+  pub processes : ListsProcesses content
   pub below : KeepsParts kept content
   pub few : size ≤ 2 ^ 30
   pub known : IfSome kept (λ known. IsKept known (content_steps content))

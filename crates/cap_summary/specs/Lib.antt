@@ -7,7 +7,12 @@ pub mod Names
 pub mod Composing
 pub mod Preconditions
 pub mod Knows
+pub mod Lasts
 pub mod Kept
+pub mod KeptRuns
+pub mod Differing
 pub mod Stands
+pub mod Again
 pub mod Positions
+pub mod Listing
 pub use Prelude.*

@@ -1,5 +1,5 @@
 -- Positions in a trace: what is found at a range of them, the last step of each process, and walks back from a place.
-use Rattle.std.specs.Prelude.{if◌then◌else◌, ◌&&◌, ◌+◌, ◌++◌, ◌<◌, ◌==◌, ◌^◌, ◌∷◌, ◌≡◌, ◌≤◌, ◌⊎◌}
+use Rattle.std.specs.Prelude.{if◌then◌else◌, ◌&&◌, ◌+◌, ◌++◌, ◌<◌, ◌==◌, ◌^◌, ◌∷◌, ◌≡◌, ◌≤◌}
 use Rattle.cap_summary.specs.{CellWalk, Finding, ModeWalk, filter, found_at, length, nat_le, reverse, slice_index_or, ℕ}
 use Rattle.cap_summary.specs.{Bool, Cell, Found, List, Mode, State, Step, [], check, ended, later, map, take}
 use Rattle.cap_summary.specs.declared.{explaining.PlaceInNode.PlaceInNode, last_steps.LastSteps.LastSteps}
@@ -20,10 +20,6 @@ said_in asked at says = within asked.from asked.to (map (found_at at) says)
 
 abbrev pub found_in : Asked → ℕ → State → List Step → List Found
 found_in asked at s t = within asked.from asked.to (map (later at) (check s t))
-
--- all findings, or some of them that are more than a number
-abbrev pub AllOrMany : ℕ → List Found → List Found → Type 0
-AllOrMany most found all = (found ≡ all) ⊎ ((most < length found) × (length found ≤ length all))
 
 -- at how many positions something is found, of findings in order
 abbrev pub starts : Found → List Found → ℕ
@@ -52,12 +48,12 @@ pub record AgreeAfter (last : LastSteps) (at : ℕ) (s r : State) : Type 0 where
   pub cells : (p f : ℕ) → at < last_of last p → s.cell p f ≡ r.cell p f
   pub modes : (p : ℕ) → at < last_of last p → s.mode p ≡ r.mode p
 
--- what is found in steps after so many others is noted; the state after them agrees with r, unless it is after the last
--- position that is asked for
+-- what is found in steps after so many others is noted; the state after them agrees with r, unless no position after
+-- them is asked for
 pub record AreJudged (last : LastSteps) (asked : Asked) (at : ℕ) (t : List Step) (s r : State) (old new : List Found)
     : Type 0 where
   pub found : new ≡ old ++ found_in asked at s t
-  pub agree : at + length t ≤ asked.to → AgreeAfter last (at + length t) (ended s t) r
+  pub agree : at + length t < asked.to → AgreeAfter last (at + length t) (ended s t) r
 
 -- ---- a place after some steps of a node, which has so many, and not too many to be counted
 pub record IsPlace (place : PlaceInNode) : Type 0 where

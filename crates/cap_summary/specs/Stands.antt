@@ -19,5 +19,5 @@ Stands z = StandsFor z.node.value
 
 -- each part is shorter than its node
 pub deep_le_length : (c : Content) → HasParts c → max (deep-Content c) 0 ≤ length (content_steps c)
-deep_le_length (Content.Run run) has = omega arith
+deep_le_length (Content.Run run pids) has = omega arith
 deep_le_length (Content.Both a b) has = omega (arith, length-append a.value.steps b.value.steps)

@@ -2,8 +2,9 @@
 
 ghost use Rattle.std.specs.Prelude.{IfNone, IfSome, Some, option_copied, ◌||◌, ◌≡◌};
 ghost use Rattle.cap_summary.specs.{Cell, Keys.Cells, Keys.cells_of, State, applied, list_all, list_any, nat_cmp, none};
-ghost use Rattle.cap_summary.specs.Asks.{AskWithin, IfAsked, IsAtPlace, each_kind, has_kind, pulled_holds, standing};
-ghost use Rattle.cap_summary.specs.Asks.{IsOpen, holding, holds, is_sure, lacks, passes, place};
+ghost use Rattle.cap_summary.specs.Asks.{AgreeOn, AreOneTo, CanHold, holding, holds, is_sure, lacks, place};
+ghost use Rattle.cap_summary.specs.Asks.{AskWithin, IfAsked, IsAtPlace, each_kind, has_kind, passes, pulled_holds};
+ghost use Rattle.cap_summary.specs.Asks.{standing};
 ghost use Rattle.cap_summary.specs.Effects.{cell_in, changed, listed_value, row_cell};
 ghost use Rattle.cap_summary.specs.Names.{EffectWithin, Names, RowWithin};
 
@@ -33,7 +34,7 @@ pub struct Ask {
 /// What becomes of an ask where it is pulled back to an earlier state.
 #[derive(Clone, Copy)]
 pub enum Pulled {
-    /// It holds whatever the state.
+    /// Its cell is given whatever the state, and it holds.
     Always,
     /// It holds in no state.
     Never,
@@ -79,6 +80,7 @@ impl Ask {
     pub(crate) fn or(&self, other: &Ask) -> Ask
         requires { IsAtPlace self.now other.now }
         ensures holds { (cells : Cells) → holds cells result ≡ (holds cells self.now || holds cells other.now) }
+        ensures agree { (s r : Cells) → AgreeOn s r result → AgreeOn s r self.now × AgreeOn s r other.now }
         ensures place { place result ≡ place self.now }
         ensures names { (names : Names) → AskWithin names self.now → AskWithin names result }
     {
@@ -156,15 +158,14 @@ impl Ask {
         }
     }
 
-    /// This ask, or that it holds in every state or in none.
+    /// This ask, or that it holds in no state.
     pub(crate) fn settled(self) -> Pulled
         ensures holds { (s : State) → pulled_holds (cells_of s) result ≡ holds (cells_of s) self }
-        ensures open { IfAsked IsOpen result }
+        ensures agree { (s r : State) → IfAsked (AgreeOn (cells_of s) (cells_of r)) result
+            → AgreeOn (cells_of s) (cells_of r) self }
+        ensures can { IfAsked CanHold result }
         ensures names { (names : Names) → AskWithin names self → IfAsked (AskWithin names) result }
     {
-        if self.is_certain() {
-            return Pulled::Always;
-        }
         if self.is_possible() {
             Pulled::Where(self)
         } else {
@@ -177,7 +178,10 @@ impl Ask {
         requires { option_copied listed ≡ listed_value row.now self.now.key }
         ensures holds { (s : State) → pulled_holds (cells_of s) result
             ≡ passes self.now (row_cell (cells_of s) self.now.pid row.now self.now.key) }
-        ensures open { IfAsked IsOpen result }
+        ensures agree { (s r : State) → IfAsked (AgreeOn (cells_of s) (cells_of r)) result → AreOneTo self.now
+            (row_cell (cells_of s) self.now.pid row.now self.now.key)
+            (row_cell (cells_of r) self.now.pid row.now self.now.key) }
+        ensures can { IfAsked CanHold result }
         ensures names { (names : Names) → RowWithin names row.now → AskWithin names self.now
             → IfAsked (AskWithin names) result }
     {
@@ -199,7 +203,9 @@ impl Ask {
     /// What it asks of the state before an earlier segment that has this effect.
     pub(crate) fn before(&self, first: &Effect) -> Pulled
         ensures holds { (s : State) → pulled_holds (cells_of s) result ≡ holds (changed first.now (cells_of s)) self.now }
-        ensures open { IfAsked IsOpen result }
+        ensures agree { (s r : State) → IfAsked (AgreeOn (cells_of s) (cells_of r)) result
+            → AgreeOn (changed first.now (cells_of s)) (changed first.now (cells_of r)) self.now }
+        ensures can { IfAsked CanHold result }
         ensures names { (names : Names) → EffectWithin names first.now → AskWithin names self.now
             → IfAsked (AskWithin names) result }
     {

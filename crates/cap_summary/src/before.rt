@@ -6,27 +6,33 @@ ghost use Rattle.cap_summary.specs.{Asks.any_holds, Asks.holds, Keys.cells_of, l
 
 use crate::view::Seen;
 use crate::{Ask, Effect, Key, Precondition, UpToThree, cell_of_mode, mode_of_cell};
-use cap_machine::{Cell, Checks, Mode, Op, Requirement, Start, Verdict};
+use cap_machine::{Cell, Checks, Machine, Mode, Op, Requirement, Start, Verdict};
 use cap_trace::{Fd, Pid};
 
-/// A start, or what effects make of one.
+/// A start, what a machine knows, or what effects make of one of these.
 #[derive(Clone, Copy)]
 pub enum Before<'a> {
     /// A start.
     At(&'a Start),
+    /// What a machine knows.
+    Now(&'a Machine),
     /// What an effect makes of the state before it.
     After(&'a Before<'a>, &'a Effect),
 }
 
 impl<'a> Before<'a> {
     /// What is known of a cell: of a descriptor, or of a mode as a cell.
-    fn read(&self, pid: Pid, key: Key) -> Cell
+    pub(crate) fn read(&self, pid: Pid, key: Key) -> Cell
         ensures { result ≡ cells_of (state_before self.now) pid key }
     {
         match self {
             Before::At(start) => match key {
                 Key::Mode => cell_of_mode(start.mode(pid)),
                 Key::Fd(fd) => start.cell(pid, fd),
+            },
+            Before::Now(machine) => match key {
+                Key::Mode => cell_of_mode(machine.mode(pid)),
+                Key::Fd(fd) => machine.cell(pid, fd),
             },
             Before::After(before, effect) => {
                 let cell = match effect.view(pid, key) {

@@ -6,6 +6,7 @@ ghost use Rattle.cap_summary.specs.{said};
 ghost use Rattle.cap_summary.specs.Positions.{AgreeAfter, AreJudged, AreNoted, found_in, said_in};
 
 use crate::last_steps::LastSteps;
+use crate::passing::forget;
 use crate::{Before, Effect};
 use cap_machine::{Found, Machine, Requirement, Step, Verdict, rule_of};
 use cap_trace::Pid;
@@ -20,8 +21,6 @@ pub(crate) struct Asked {
     pub(crate) from: usize,
     /// The last position.
     pub(crate) to: usize,
-    /// How many are looked up one by one.
-    pub(crate) most: usize,
 }
 
 /// What is found in steps, and how many of them were judged for it.
@@ -157,7 +156,7 @@ fn forget_done(
     if last.of(pid) > at {
         return Ok(());
     }
-    machine.forget(pid).map_err(|_| NoMemory)
+    forget(machine, pid)
 }
 
 /// Notes what is found in a run of steps after so many others, at the positions that are asked for, and moves the
@@ -182,4 +181,34 @@ pub(crate) fn judge_in_order(
     note_asked(&verdict, at + 1, asked, found)?;
     forget_done(machine, at + 1, last, &run[0])?;
     judge_in_order(&run[1..], machine, at + 1, last, asked, found)
+}
+
+/// Passes the next step, and judges nothing.
+fn passed(machine: &mut Machine, step: &Step) -> Result<(), NoMemory>
+    ensures { OnOk result (start_state machine.new ≡ ended (start_state machine.old) (step.now ∷ [])) }
+{
+    machine
+        .apply_line(step.profile, &step.line)
+        .map_err(|_| NoMemory)
+}
+
+/// Moves the machine on over a run of steps after so many others, of which none is judged, to what is known after them of
+/// the processes that make later ones.
+pub(crate) fn pass_in_order(
+    run: &[Rc<Step>],
+    machine: &mut Machine,
+    at: usize,
+    last: &LastSteps,
+) -> Result<(), NoMemory>
+    requires short { at + length run.now ≤ 2 ^ 31 }
+    requires noted { AreNoted last.now at (values run.now) }
+    ensures { (s : State) → AgreeAfter last.now at s (start_state machine.old)
+        → OnOk result (AgreeAfter last.now (at + length run.now) (ended s (values run.now)) (start_state machine.new)) }
+{
+    if run.len() == 0 {
+        return Ok(());
+    }
+    passed(machine, &run[0])?;
+    forget_done(machine, at + 1, last, &run[0])?;
+    pass_in_order(&run[1..], machine, at + 1, last)
 }

@@ -2,7 +2,7 @@
 
 ghost use Rattle.std.specs.Prelude.{◌≡◌, ◌<◌, ◌∷◌, ◌++◌, nat_le, true, List, [], IfOk, OnOk};
 ghost use Rattle.cap_summary.specs.{Composing.{AreAlike, IsJoined, IsJoinedEffect}, Effects.leaves, Keys.AllRise};
-ghost use Rattle.cap_summary.specs.{Knows.{Knows, Says, finds, state_after}, Step, part_at, start_state, values};
+ghost use Rattle.cap_summary.specs.{Knows.{Knows, Says, finds, state_after}, Lasts.pids_of, Step, part_at, start_state, values};
 ghost use Rattle.cap_summary.specs.Preconditions.{IsAskedByBoth, IsSamePrecondition, IsSettled, size};
 
 use crate::composed::Replaced;
@@ -23,14 +23,15 @@ pub struct Known {
     pub precondition: Rc<Precondition>,
 }
 
-/// Adds one more step to an effect and to a precondition.
+/// Adds one more step to an effect and to a precondition, and answers its process.
 fn put_step(
     alloc: Global,
     effect: &mut Effect,
     precondition: &mut Precondition,
     step: &Step,
-) -> Result<(), NoMemory>
-    ensures { (steps : List Step) → Says effect.old precondition.old steps
+) -> Result<Pid, NoMemory>
+    ensures pid { IfOk result (λ pid. pid ≡ step.now.line.pid) }
+    ensures says { (steps : List Step) → Says effect.old precondition.old steps
         → OnOk result (Says effect.new precondition.new (steps ++ step.now ∷ [])) }
 {
     let line = step.line.view();
@@ -39,27 +40,31 @@ fn put_step(
     let asks = LineAsks::of_line(pid, &rule.requirement);
     precondition.put_line(effect, &asks)?;
     effect.push(alloc, pid, &rule.effect)?;
-    Ok(())
+    Ok(pid)
 }
 
 impl Known {
-    /// What is known of a run of steps, settled.
-    pub fn of_run(alloc: Global, steps: &[Rc<Step>]) -> Result<Known, NoMemory>
-        ensures says { IfOk result (λ run. Knows run (values steps.now)) }
-        ensures settled { IfOk result (λ run. IsSettled run.precondition.value) }
+    /// What is known of a run of steps, settled, and their processes.
+    pub(crate) fn of_run(alloc: Global, steps: &[Rc<Step>]) -> Result<(Known, Vec<Pid>), NoMemory>
+        ensures says { IfOk result (λ run. Knows run.0 (values steps.now)) }
+        ensures settled { IfOk result (λ run. IsSettled run.0.precondition.value) }
+        ensures pids { IfOk result (λ run. run.1.items ≡ pids_of (values steps.now)) }
     {
         let mut effect = Effect::empty(alloc);
         let mut precondition = Precondition::never(alloc, steps.len())?;
+        let mut pids = Vec::with_capacity(alloc, steps.len())?;
         for step in steps {
-            put_step(alloc, &mut effect, &mut precondition, step)?;
+            let pid = put_step(alloc, &mut effect, &mut precondition, step)?;
+            pids.push(pid)?;
         }
         let settled = precondition.settled(alloc)?;
         let effect = Rc::new(alloc, effect)?;
         let shared = Rc::new(alloc, settled)?;
-        Ok(Known {
+        let known = Known {
             effect,
             precondition: shared,
-        })
+        };
+        Ok((known, pids))
     }
 
     /// What is known of these steps and then those of a later segment, settled.

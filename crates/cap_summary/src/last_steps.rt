@@ -1,13 +1,11 @@
 //! Where each process makes its last step.
 
 ghost use Rattle.std.specs.Prelude.{OnOk, length, ℕ, ◌+◌, ◌^◌, ◌≡◌, ◌≤◌};
-ghost use Rattle.cap_summary.specs.{Positions.AreNoted, Positions.last_of, values};
+ghost use Rattle.cap_summary.specs.{Lasts.AreNotedFor, Positions.last_of};
 
-use cap_machine::Step;
 use cap_trace::Pid;
 use cap_tree::NoMemory;
 use std::alloc::Global;
-use std::rc::Rc;
 
 /// By pid the position of the last step that is noted of a process.
 #[derive(Drop)]
@@ -43,17 +41,16 @@ impl LastSteps {
         Ok(())
     }
 
-    /// Notes the steps of a run after so many others.
-    pub(crate) fn note_run(&mut self, run: &[Rc<Step>], at: usize) -> Result<(), NoMemory>
-        requires { at + length run.now ≤ 2 ^ 31 }
+    /// Notes steps of these processes, which stand after so many others.
+    pub(crate) fn note_run(&mut self, pids: &[Pid], at: usize) -> Result<(), NoMemory>
+        requires { at + length pids.now ≤ 2 ^ 31 }
         ensures kept { OnOk result ((p : ℕ) → last_of self.old p ≤ last_of self.new p) }
-        ensures noted { OnOk result (AreNoted self.new at (values run.now)) }
+        ensures noted { OnOk result (AreNotedFor self.new at pids.now) }
     {
-        if run.len() == 0 {
+        if pids.len() == 0 {
             return Ok(());
         }
-        self.note(run[0].line.pid(), at + 1)?;
-        self.note_run(&run[1..], at + 1)?;
-        Ok(())
+        self.note(pids[0], at + 1)?;
+        self.note_run(&pids[1..], at + 1)
     }
 }

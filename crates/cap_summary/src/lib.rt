@@ -1,14 +1,17 @@
 //! What a segment of a trace does to what is known, and under which states before it something is found in it.
 #![tactic(auto)]
 
+mod again;
 mod ask;
 mod asks;
 mod base;
 mod before;
 mod composed;
+mod difference;
 mod effect;
 mod explaining;
 mod judging;
+mod kept_run;
 mod key;
 mod kinds;
 mod known;
@@ -16,6 +19,7 @@ mod last_steps;
 mod line;
 mod line_asks;
 mod node;
+mod passing;
 mod precondition;
 mod reading;
 mod shared;
@@ -26,12 +30,14 @@ mod value;
 mod view;
 mod walking;
 
+pub use again::{Earlier, resolve_again};
 pub use ask::{Ask, Pulled};
 pub use base::{Base, DefaultCells, Passing};
 pub use before::Before;
 pub use effect::{Effect, Row};
 pub use explaining::explain;
 pub use judging::Report;
+pub use kept_run::KeptRun;
 pub use key::{Key, cell_of_mode, mode_of_cell};
 pub use kinds::Kinds;
 pub use known::Known;

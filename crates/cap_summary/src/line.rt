@@ -1,15 +1,17 @@
 //! The effect of one line.
 
-ghost use Rattle.std.specs.Prelude.{IfOk, None, OnOk, Some, false, if◌then◌else◌, true, unwrap_or, ℕ, ◌==◌, ◌≡◌, ◌⊎◌};
+ghost use Rattle.std.specs.Prelude.{IfOk, List, None, OnOk, Some, [], false, if◌then◌else◌, true, unwrap_or, ℕ};
+ghost use Rattle.std.specs.Prelude.{◌++◌, ◌==◌, ◌∷◌, ◌≡◌, ◌⊎◌};
 ghost use Rattle.cap_summary.specs.{All, Keys.{Cells, read}, Sorted.found, declared.key.Key.Key, fds_spelled, is_child};
 ghost use Rattle.cap_summary.specs.Names.{EffectWithin, IsListedWithin, LineWithin, ListWithin, Names, RowWithin};
 ghost use Rattle.cap_summary.specs.{Closed, Effects.{LineLeaves, changed, is_cell, is_touched, leaves, line_after}};
+ghost use Rattle.cap_summary.specs.{Keys.cells_of, State, ended};
 ghost use Rattle.cap_summary.specs.{Effects.{own_row, row_cell, row_leaves, sets_cells}, option_map_or, started};
 
 use crate::{
     Base, DefaultCells, Effect, Key, Map, Passing, Row, SharedOp, SharedRow, Value, cell_of_mode,
 };
-use cap_machine::{Effect as LineEffect, Mode, OnExec};
+use cap_machine::{Effect as LineEffect, Mode, OnExec, Step, rule_of};
 use cap_rights::RightSet;
 use cap_trace::{Fd, Pid, fds_of};
 use cap_tree::NoMemory;
@@ -202,5 +204,19 @@ impl Effect {
             }
             _ => self.push_row(alloc, me, line),
         }
+    }
+
+    /// The effect of this segment and then a step, in place. After an `Err` it is only to be dropped.
+    pub(crate) fn push_step(&mut self, alloc: Global, step: &Step) -> Result<(), NoMemory>
+        ensures { (s : State) (t : List Step)
+            → ((p : ℕ) (k : Key) → changed self.old (cells_of s) p k ≡ cells_of (ended s t) p k)
+            → OnOk result ((p : ℕ) (k : Key)
+            → changed self.new (cells_of s) p k ≡ cells_of (ended s (t ++ step.now ∷ [])) p k) }
+    {
+        let line = step.line.view();
+        let pid = line.pid;
+        let rule = rule_of(step.profile, &line);
+        self.push(alloc, pid, &rule.effect)?;
+        Ok(())
     }
 }

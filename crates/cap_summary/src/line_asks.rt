@@ -1,9 +1,10 @@
 //! What one line asks of the cells before it.
 
-ghost use Rattle.std.specs.Prelude.{if◌then◌else◌, length, true, ◌&&◌, ◌||◌, ◌≡◌, ◌≤◌};
-ghost use Rattle.cap_summary.specs.{Check, LimitWord, State, declared.key.Key.Key, findings_of, list_any, listed};
+ghost use Rattle.std.specs.Prelude.{All, false, if◌then◌else◌, length, map, true, ◌&&◌, ◌||◌, ◌≡◌, ◌≤◌};
+ghost use Rattle.cap_summary.specs.{Check, LimitWord, State, declared.key.Key.Key, fault, faults, findings_of, list_any};
+ghost use Rattle.cap_summary.specs.{listed};
 ghost use Rattle.cap_summary.specs.Asks.{AreWithin, AskWithin, any_holds, asked_holds, holds, is_refusal, refusals_in};
-ghost use Rattle.cap_summary.specs.Asks.{asks_in, asks_of, has_any, has_kind, is_lacked, lacks};
+ghost use Rattle.cap_summary.specs.Asks.{AgreeOn, AgreeOnLine, asks_in, asks_of, has_any, has_kind, is_lacked, lacks};
 ghost use Rattle.cap_summary.specs.Names.{ChecksWithin, RequirementWithin, Names};
 ghost use Rattle.cap_summary.specs.Keys.{Cells, cells_of, mode_cell};
 
@@ -49,6 +50,7 @@ fn of_mode(me: Pid, asked: bool, kinds: Kinds) -> UpToThree
 fn lacking(me: Pid, fd: Fd, kinds: Kinds, rights: &RightSet) -> Ask
     ensures holds { (cells : Cells) → holds cells result
         ≡ (has_kind kinds (cells me (Key.Fd fd)) || lacks rights.now (cells me (Key.Fd fd))) }
+    ensures at { (result.pid ≡ me) × (result.key ≡ Key.Fd fd) }
     ensures names { (names : Names) → names.pids me ≡ true → names.fds fd ≡ true → AskWithin names result }
 {
     Ask {
@@ -66,6 +68,8 @@ fn lacking(me: Pid, fd: Fd, kinds: Kinds, rights: &RightSet) -> Ask
 fn of_check(me: Pid, check: &Check, refused: bool) -> Ask
     ensures holds { (word : LimitWord) (cells : Cells)
         → holds cells result ≡ is_lacked refused word check.now (cells me (Key.Fd check.now.fd)) }
+    ensures same { refused ≡ false → (word : LimitWord) (s r : Cells) → AgreeOn s r result
+        → fault word check.now (s me (Key.Fd check.now.fd)) ≡ fault word check.now (r me (Key.Fd check.now.fd)) }
     ensures names { (names : Names) → names.pids me ≡ true → names.fds check.now.fd ≡ true
         → AskWithin names result }
 {
@@ -84,6 +88,11 @@ fn with_checks(mode: UpToThree, me: Pid, checks: &Checks, refused: bool) -> UpTo
     requires { length (asks_of mode) ≤ 1 }
     ensures holds { (word : LimitWord) (s : State) → any_holds (cells_of s) (asks_of result) ≡ (any_holds (cells_of s) (asks_of mode)
         || list_any (λ (check : Check). is_lacked refused word check (s.cell me check.fd)) (listed checks.now)) }
+    ensures mode { (s r : Cells) → All (AgreeOn s r) (asks_of result) → All (AgreeOn s r) (asks_of mode) }
+    ensures same { refused ≡ false → (word : LimitWord) (s r : State)
+        → All (AgreeOn (cells_of s) (cells_of r)) (asks_of result)
+        → faults word (listed checks.now) (map (λ (check : Check). s.cell me check.fd) (listed checks.now))
+        ≡ faults word (listed checks.now) (map (λ (check : Check). r.cell me check.fd) (listed checks.now)) }
     ensures names { (names : Names) → names.pids me ≡ true → ChecksWithin names checks.now
         → AreWithin names (asks_of mode) → AreWithin names (asks_of result) }
 {
@@ -103,6 +112,8 @@ impl LineAsks {
     /// What a line with this requirement of process `me` asks.
     pub fn of_line(me: Pid, requirement: &Requirement) -> LineAsks
         ensures holds { (s : State) → asked_holds (cells_of s) result ≡ has_any (findings_of requirement.now me s) }
+        ensures same { (s r : State) → AgreeOnLine (cells_of s) (cells_of r) result
+            → findings_of requirement.now me s ≡ findings_of requirement.now me r }
         ensures refusals { refusals_in result ≤ (if is_refusal requirement.now.reply then 1 else 0) }
         ensures names { (names : Names) → RequirementWithin names me requirement.now
             → AreWithin names (asks_in result) }

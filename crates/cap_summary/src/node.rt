@@ -4,17 +4,18 @@ ghost use Rattle.std.specs.Prelude.{◌≡◌, ◌+◌, ◌*◌, ◌^◌, ◌<�
 ghost use Rattle.cap_summary.specs.{Composing.AreAlike, Composing.IfKept, Composing.NodeView, Composing.NodesCompose};
 ghost use Rattle.cap_summary.specs.{Effects.state_before, Kept.AreKept, Kept.HasParts, Kept.IsKept, Kept.IsLarge};
 ghost use Rattle.cap_summary.specs.{Kept.IsWithin, Kept.HaveManyRows, Kept.KeepsParts, Kept.NameOrRefuseMany};
-ghost use Rattle.cap_summary.specs.{Kept.StandsFor};
-ghost use Rattle.cap_summary.specs.{Kept.content_steps, Knows.Knows, Positions.AgreeAfter, Positions.AllOrMany};
+ghost use Rattle.cap_summary.specs.{Kept.ListsProcesses, Kept.StandsFor, Listing.EffectLists, Listing.moved, ended};
+ghost use Rattle.cap_summary.specs.{Kept.content_steps, Knows.Knows, Positions.AgreeAfter, Positions.positions};
 ghost use Rattle.cap_summary.specs.{Positions.AreJudged, Positions.AreNoted, Positions.WereJudged, Positions.found_in};
 ghost use Rattle.cap_summary.specs.{Positions.last_of, Preconditions.IsSettled, State, check, part_at, start_state};
 ghost use Rattle.cap_summary.specs.{values};
-ghost use Rattle.std.specs.Prelude.{IfNone, Some, false, is_some, option_copied, true, ℕ};
+ghost use Rattle.std.specs.Prelude.{IfNone, Some, [], false, is_some, option_copied, true, ℕ};
 
-use crate::judging::{Asked, judge_in_order, judge_run};
+use crate::judging::{Asked, judge_in_order, judge_run, pass_in_order};
 use crate::last_steps::LastSteps;
-use crate::{Before, Known, Report};
+use crate::{Before, Effect, Known, Report};
 use cap_machine::{Machine, Step};
+use cap_trace::Pid;
 use cap_tree::{Meter, NoMemory, Side, Similarity};
 use std::alloc::Global;
 use std::marker::Model;
@@ -34,7 +35,8 @@ pub(crate) struct Node {
 #[cycle(node)]
 #[derive(Drop)]
 pub(crate) enum Content {
-    Run(Vec<Rc<Step>>),
+    /// Steps, and the process of each.
+    Run(Vec<Rc<Step>>, Vec<Pid>),
     Both(Rc<Node>, Rc<Node>),
 }
 
@@ -111,7 +113,7 @@ impl Content {
         ensures { result ≡ length (content_steps self.now) }
     {
         match self {
-            Content::Run(run) => run.len(),
+            Content::Run(run, _) => run.len(),
             Content::Both(a, b) => a.len() + b.len(),
         }
     }
@@ -144,6 +146,7 @@ impl Node {
     /// The node of contents with what is known of them, which is kept within the limit.
     fn of(alloc: Global, known: Option<Known>, content: Content) -> Result<Rc<Node>, NoMemory>
         requires parts { HasParts content }
+        requires processes { ListsProcesses content }
         requires kept { KeepsParts known content }
         requires few { length (content_steps content) ≤ 2 ^ 30 }
         requires knows { IfSome known (λ known. Knows known (content_steps content)) }
@@ -169,8 +172,8 @@ impl Node {
     {
         let mut run: Vec<Rc<Step>> = Vec::with_capacity(alloc, steps.len())?;
         run.extend_from_slice(steps)?;
-        let known = Known::of_run(alloc, steps)?;
-        Node::of(alloc, Some(known), Content::Run(run))
+        let (known, pids) = Known::of_run(alloc, steps)?;
+        Node::of(alloc, Some(known), Content::Run(run, pids))
     }
 
     /// These steps, with one join fewer than there are steps: as one run where it can hold them, and else half by half.
@@ -306,9 +309,8 @@ impl Node {
 
 impl Node {
     /// Notes what is found in the steps, which begin in this state after so many others, at the positions that are
-    /// asked for. It visits only parts that have such positions, and stops where more was found than is looked up one
-    /// by one. Where few positions are asked for beside what all steps ask, it goes down to these without a look at all
-    /// asks.
+    /// asked for. It visits only parts that have such positions. Where these are few beside what all steps ask, it goes
+    /// down to them without a look at all asks.
     pub(crate) fn resolve(
         &self,
         alloc: Global,
@@ -320,10 +322,10 @@ impl Node {
         requires kept { is_some self.now.known ≡ true }
         requires short { at + length self.now.steps ≤ 2 ^ 31 }
         requires room { report.old.judged + length self.now.steps < 2 ^ 64 }
-        ensures found { OnOk result (AllOrMany asked.now.most report.new.found.items
-            (report.old.found.items ++ found_in asked.now at (state_before before.now) self.now.steps)) }
+        ensures found { OnOk result (report.new.found.items
+            ≡ report.old.found.items ++ found_in asked.now at (state_before before.now) self.now.steps) }
         ensures few { OnOk result (report.new.judged
-            ≤ report.old.judged + 48 * length (check (state_before before.now) self.now.steps)) }
+            ≤ report.old.judged + 48 * positions (check (state_before before.now) self.now.steps)) }
         ensures all { OnOk result (report.new.judged ≤ report.old.judged + length self.now.steps) }
         ensures each { OnOk result (WereJudged report.old report.new) }
     {
@@ -332,7 +334,7 @@ impl Node {
         }
         let known = self.known().unwrap();
         match &self.content {
-            Content::Run(run) => {
+            Content::Run(run, _) => {
                 if !before.meets(&known.precondition) {
                     return Ok(());
                 }
@@ -348,9 +350,6 @@ impl Node {
                     return Ok(());
                 }
                 left.resolve(alloc, before, at, asked, report)?;
-                if report.found.len() > asked.most {
-                    return Ok(());
-                }
                 let first = left.known().unwrap();
                 let effect = &*first.effect;
                 let between = Before::After(&*before, effect);
@@ -366,7 +365,7 @@ impl Node {
         ensures noted { OnOk result (AreNoted last.new at self.now.steps) }
     {
         match &self.content {
-            Content::Run(run) => last.note_run(run, at),
+            Content::Run(_, pids) => last.note_run(pids, at),
             Content::Both(a, b) => {
                 let left = &**a;
                 let right = &**b;
@@ -377,11 +376,42 @@ impl Node {
         }
     }
 
+    /// The effect of the steps, where it lists all that they change.
+    fn listed(&self) -> Option<&Effect>
+        ensures lists { IfSome result (λ effect. EffectLists effect.now) }
+        ensures moves { IfSome result (λ effect. (s : State) → moved effect.now s ≡ ended s self.now.steps) }
+    {
+        let known = self.known()?;
+        if known.effect.lists() {
+            return Some(&known.effect);
+        }
+        None
+    }
+
+    /// Whether something may be found in the steps, which stand after so many others, at the positions that are asked
+    /// for.
+    fn may_find(&self, machine: &Machine, at: usize, asked: &Asked) -> bool
+        requires { at + length self.now.steps ≤ 2 ^ 31 }
+        ensures none { result ≡ false → found_in asked.now at (start_state machine.now) self.now.steps ≡ [] }
+        ensures some { result ≡ true → is_some self.now.known ≡ true
+            → 0 < positions (check (start_state machine.now) self.now.steps) }
+    {
+        if at + self.len < asked.from {
+            return false;
+        }
+        match self.known() {
+            Some(known) => Before::Now(machine).meets(&known.precondition),
+            None => true,
+        }
+    }
+
     /// Notes what is found in the steps after so many others, at the positions that are asked for, and moves the
     /// machine on to what is known after them of the processes that make later ones; where no position after them is
-    /// asked for, it may stop before.
-    pub(crate) fn judge(
+    /// asked for, it may stop before. It judges only runs in which something is found. A part in which nothing is found
+    /// is passed by its effect, where this lists all that it changes.
+    pub(crate) fn pass(
         &self,
+        alloc: Global,
         machine: &mut Machine,
         at: usize,
         last: &LastSteps,
@@ -393,13 +423,28 @@ impl Node {
         requires noted { AreNoted last.now at self.now.steps }
         ensures judged { (s : State) → AgreeAfter last.now at s (start_state machine.old) → OnOk result (AreJudged last.now
             asked.now at self.now.steps s (start_state machine.new) report.old.found.items report.new.found.items) }
+        ensures few { is_some self.now.known ≡ true → (s : State) → AgreeAfter last.now at s (start_state machine.old)
+            → OnOk result (report.new.judged ≤ report.old.judged + 48 * positions (check s self.now.steps)) }
+        ensures beyond { asked.now.to ≤ at → OnOk result (report.new.judged ≡ report.old.judged) }
         ensures all { OnOk result (report.new.judged ≤ report.old.judged + length self.now.steps) }
         ensures each { OnOk result (WereJudged report.old report.new) }
     {
-        match &self.content {
-            Content::Run(run) => {
-                if asked.to <= at {
+        if asked.to <= at {
+            return Ok(());
+        }
+        if let Some(effect) = self.listed() {
+            if !self.may_find(&*machine, at, asked) {
+                let end = at + self.len;
+                if asked.to <= end {
                     return Ok(());
+                }
+                return effect.take(alloc, machine, end, last);
+            }
+        }
+        match &self.content {
+            Content::Run(run, _) => {
+                if !self.may_find(&*machine, at, asked) {
+                    return pass_in_order(run, machine, at, last);
                 }
                 report.judged += run.len();
                 judge_in_order(run, machine, at, last, asked, &mut report.found)
@@ -407,8 +452,8 @@ impl Node {
             Content::Both(a, b) => {
                 let left = &**a;
                 let right = &**b;
-                left.judge(machine, at, last, asked, report)?;
-                right.judge(machine, at + left.len(), last, asked, report)
+                left.pass(alloc, machine, at, last, asked, report)?;
+                right.pass(alloc, machine, at + left.len(), last, asked, report)
             }
         }
     }

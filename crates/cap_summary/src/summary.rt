@@ -1,6 +1,6 @@
 //! The summary of a segment of a trace.
 
-ghost use Rattle.std.specs.Prelude.{IfNone, IfOk, IfSome, OnOk, is_some, length, true, ◌*◌, ◌+◌, ◌<◌, ◌^◌, ◌≡◌, ◌≤◌};
+ghost use Rattle.std.specs.Prelude.{[], IfNone, IfOk, IfSome, OnOk, is_some, length, true, ◌*◌, ◌+◌, ◌<◌, ◌^◌, ◌≡◌, ◌≤◌};
 ghost use Rattle.cap_summary.specs.{Composing.NodesCompose, Kept.NameOrRefuseMany, Preconditions.IsSamePrecondition};
 ghost use Rattle.cap_summary.specs.{Composing.IfKept, Positions.positions, Positions.within, Stands.summed_up, check};
 ghost use Rattle.cap_summary.specs.{Kept.IsKept, Stands.Stands, Stands.kept_of, option_copied, start_state};
@@ -15,8 +15,8 @@ use cap_tree::{Meter, NoMemory, Segment, Side, Similarity};
 use std::alloc::Global;
 use std::rc::Rc;
 
-/// To look a finding up takes about as long as to judge some hundred steps; so, of so many steps, one is looked up.
-const STEPS_A_FINDING: usize = 2_048;
+/// To look a run up by the effects before it takes about as long as to pass so many steps, for each of its own.
+const STEPS_A_POSITION: usize = 300;
 
 /// How many positions are judged alone where nothing is kept of the whole.
 const MOST_ALONE: usize = 16;
@@ -71,8 +71,9 @@ pub fn resolve_range(
 }
 
 /// The findings at a range of positions, and how many steps were judged. Where what is known of all steps is kept, only
-/// runs of at most 48 steps are judged that have a finding; where more than one in 2,048 steps has one, all are, in
-/// order. Where it isn't kept, all are too; but of at most 16 positions each is judged alone, as [`explain`] does.
+/// runs of at most 48 steps are judged that have a finding. A wide range is reported in one pass over all steps, with the
+/// state at hand; in a narrow one each run is looked up by the effects before it. Where what is known isn't kept, of at
+/// most 16 positions each is judged alone, as [`explain`] does.
 ///
 /// [`explain`]: crate::explaining::explain
 ///
@@ -87,57 +88,64 @@ pub fn report_range(
     ensures found { IfOk result (λ report. report.found.items
         ≡ within from to (check (start_state start.now) (summed_up summary.now))) }
     ensures few { is_some (kept_of summary.now) ≡ true → IfOk result
-        (λ report. report.judged ≤ 2096 * length (check (start_state start.now) (summed_up summary.now))) }
-    ensures all { IfOk result (λ report. report.judged ≤ 2 * length (summed_up summary.now)) }
+        (λ report. report.judged ≤ 48 * positions (check (start_state start.now) (summed_up summary.now))) }
+    ensures all { IfOk result (λ report. report.judged ≤ length (summed_up summary.now)) }
     ensures each { IfOk result (λ report. positions report.found.items ≤ report.judged) }
 {
     let node: &Node = &summary.node;
-    let most = node.len() / STEPS_A_FINDING;
-    let asked = Asked { from, to, most };
+    let narrow = node.len() / STEPS_A_POSITION;
+    let asked = Asked { from, to };
     let mut report = Report {
         found: Vec::new(alloc),
         judged: 0,
     };
-    if node.is_kept() {
-        let before = Before::At(&*start);
-        node.resolve(alloc, &before, 0, &asked, &mut report)?;
-        if report.found.len() <= most {
+    match node.known() {
+        Some(known) => {
+            let before = Before::At(&*start);
+            if asked.are_at_most(narrow) {
+                node.resolve(alloc, &before, 0, &asked, &mut report)?;
+                return Ok(report);
+            }
+            if !before.meets(&known.precondition) {
+                return Ok(report);
+            }
+        }
+        None if asked.are_at_most(MOST_ALONE) => {
+            judge_alone(alloc, node, start, &asked, &mut report)?;
             return Ok(report);
         }
-    } else if asked.are_at_most(MOST_ALONE) {
-        judge_alone(alloc, node, start, &asked, &mut report)?;
-        return Ok(report);
+        None => {}
     }
-    judge_in_order(alloc, summary, start, &asked, &mut report)?;
+    pass_all(alloc, node, start, &asked, &mut report)?;
     Ok(report)
 }
 
-/// Judges all steps in order, up to the last position that is asked for, and notes what is found instead of what was
-/// found so far.
-fn judge_in_order(
+/// Reports the steps of a node in one pass, up to the last position that is asked for.
+fn pass_all(
     alloc: Global,
-    summary: &Summary,
+    node: &Node,
     start: &Start,
     asked: &Asked,
     report: &mut Report,
 ) -> Result<(), NoMemory>
-    requires few { length (summed_up summary.now) ≤ 2 ^ 30 }
-    requires room { report.old.judged ≤ 2 ^ 30 }
+    requires few { length node.now.steps ≤ 2 ^ 30 }
+    requires nothing { report.old.found.items ≡ [] }
+    requires none_judged { report.old.judged ≡ 0 }
     ensures found { OnOk result (report.new.found.items
-        ≡ within asked.now.from asked.now.to (check (start_state start.now) (summed_up summary.now))) }
-    ensures all { OnOk result (report.new.judged ≤ report.old.judged + length (summed_up summary.now)) }
+        ≡ within asked.now.from asked.now.to (check (start_state start.now) node.now.steps)) }
+    ensures few { is_some node.now.known ≡ true
+        → OnOk result (report.new.judged ≤ 48 * positions (check (start_state start.now) node.now.steps)) }
+    ensures all { OnOk result (report.new.judged ≤ length node.now.steps) }
     ensures each { OnOk result (positions report.new.found.items ≤ report.new.judged) }
 {
-    report.found.clear();
-    let node: &Node = &summary.node;
     let mut last = LastSteps::nothing(alloc);
     node.note_last(0, &mut last)?;
     let Ok(mut machine) = Machine::from_start(alloc, start) else {
         return Err(NoMemory);
     };
-    let judged = node.judge(&mut machine, 0, &last, asked, report);
+    let passed = node.pass(alloc, &mut machine, 0, &last, asked, report);
     drop(machine);
-    judged
+    passed
 }
 
 impl Segment for Summary {

@@ -3,7 +3,7 @@
 ghost use Rattle.std.specs.Prelude.{All, IfNone, IfSome, [], false, length, true, ◌++◌, ◌<◌, ◌||◌, ◌∷◌, ◌≡◌, ◌≤◌};
 ghost use Rattle.cap_summary.specs.{Asks.AreWithin, Asks.are_sure_at, Effects.changed, Preconditions.IsPulledBack};
 ghost use Rattle.cap_summary.specs.{Asks.AskWithin, Asks.any_holds, Asks.asks_of, Asks.each_kind, Keys.cells_of, State};
-ghost use Rattle.cap_summary.specs.{Asks.IsOpen, Asks.holds, Keys.Cells, Names.Names, list_all};
+ghost use Rattle.cap_summary.specs.{Asks.CanHold, Asks.holds, Keys.Cells, Names.Names, list_all};
 
 use crate::{Ask, Effect, Key, Kinds, Pulled};
 use cap_rights::RightSet;
@@ -55,12 +55,12 @@ impl UpToThree {
         self.count += 1;
     }
 
-    /// What these ask before an earlier segment: `None` where one of them holds in every state.
+    /// What these ask before an earlier segment: `None` where the cell of one is given, and it holds.
     #[inline(always)]
     pub(crate) fn before(&self, first: &Effect) -> Option<UpToThree>
         ensures always { IfNone result ((s : State) → any_holds (changed first.now (cells_of s)) (asks_of self.now) ≡ true) }
-        ensures asks { IfSome result (λ before. IsPulledBack first.now (asks_of self.now) (asks_of before)) }
-        ensures open { IfSome result (λ before. All IsOpen (asks_of before)) }
+        ensures asks { IfSome result (λ before. IsPulledBack first.now (asks_of self.now) (asks_of before) false) }
+        ensures can { IfSome result (λ before. All CanHold (asks_of before)) }
     {
         let mut before = UpToThree::none();
         for ask in self.as_slice() {

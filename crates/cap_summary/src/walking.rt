@@ -87,7 +87,7 @@ impl Node {
         ensures { slice_index_or self.now.steps count result.now ≡ result.now }
     {
         match &self.content {
-            Content::Run(run) => &run[count],
+            Content::Run(run, _) => &run[count],
             Content::Both(a, b) => {
                 if count < a.len() {
                     a.step(count)
@@ -124,7 +124,7 @@ impl Node {
             return Ok(());
         }
         match &self.content {
-            Content::Run(run) => walk_run(walk, at, &run[..count]),
+            Content::Run(run, _) => walk_run(walk, at, &run[..count]),
             Content::Both(a, b) => {
                 let left = &**a;
                 let right = &**b;

@@ -83,6 +83,9 @@ the lines of the trace that are not, from 1. The commands:
   count           prints the number of lines
   report          prints the findings of the whole trace, and how many
   report A B      prints the findings at positions A to B, and how many
+  changes         prints what went (`- `) and what came (`+ `) since the last
+                  `report` or `changes`, and how many there are now; `all` and
+                  each finding where there is nothing to compare with
 
 The reply to an edit is `ok` and the number of lines. The reply to what can't be
 done is `refused` and a code, and the trace stays as it was:

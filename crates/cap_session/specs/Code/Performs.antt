@@ -1,10 +1,11 @@
 -- What each part of the code of a script's session does. Only the code's contracts use this; Scripts says what a script
 -- is replied to.
 use Rattle.std.specs.Prelude.{◌≡◌, List, ℕ, Result, Ok, Err, IsOk, IsTrue, ◌⊎◌, Option, None, Some}
-use Rattle.cap_trace.specs.Entry.{Entry}
 use Rattle.cap_machine.specs.declared.cell.Profile.{Profile}
-use Rattle.cap_session.specs.Commands.{Asked, show_line, count_lines, report_all, report_lines, unknown, edit_asked}
-use Rattle.cap_session.specs.Replies.{commanded, may_run_out}
+use Rattle.cap_session.specs.Commands.{Asked, show_line, count_lines, report_all, report_lines, tell_changes, unknown, edit_asked}
+use Rattle.cap_session.specs.Replies.{Done, ScriptState, commanded, may_run_out}
+use Rattle.cap_session.specs.Scripts.{Does}
+use Rattle.cap_session.specs.Session.{SessionState}
 use Rattle.cap_session.specs.Refused.{code_of}
 use Rattle.cap_session.specs.declared.refused.Refused.{Refused}
 use Rattle.cap_session.specs.declared.refused.Refused.TheVariants.{Memory}
@@ -20,6 +21,7 @@ command_asked (commands.Show position) = show_line position
 command_asked commands.Count = count_lines
 command_asked commands.Report = report_all
 command_asked (commands.ReportRange first last) = report_lines first last
+command_asked commands.Changes = tell_changes
 
 -- what a line asks for, by its command
 abbrev pub asked_by : Option Command → Asked
@@ -30,8 +32,12 @@ abbrev pub text_of : Reply → List ℕ
 text_of (Short text) = text
 text_of (Long text) = text.items
 
--- A command was done and has its reply, or it is refused, or memory ran out for it. The trace goes from t to u.
-abbrev pub Performs : Profile → List Entry → Asked → Result Reply Refused → List Entry → Type 0
-Performs profile t ask (Ok reply) u = commanded profile t ask ≡ Ok (record { text = text_of reply; trace = u })
+-- what a script works on, of a session
+abbrev pub state_of : SessionState → ScriptState
+state_of session = record { trace = session.trace; base = session.base }
+
+-- A command was done and has its reply, or it is refused, or memory ran out for it. The script's state goes from t to u.
+abbrev pub Performs : Profile → ScriptState → Asked → Result Reply Refused → ScriptState → Type 0
+Performs profile t ask (Ok reply) u = (done : Done) × (commanded profile t ask ≡ Ok done) × Does t done (text_of reply) u
 Performs profile t ask (Err why) u = (u ≡ t) × ((commanded profile t ask ≡ Err (code_of why))
     ⊎ ((why ≡ Memory) × IsOk (commanded profile t ask) × IsTrue (may_run_out ask)))

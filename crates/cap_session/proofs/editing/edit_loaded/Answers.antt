@@ -8,14 +8,14 @@ use Rattle.cap_session.proofs.editing.edit_loaded.Goals as goal
 
 pub returns-in-Ok : goal.returns-in-Ok
 returns-in-Ok g c =
-    let same : c.script.inside.session.trace ≡ c.reply_all.new.script.trace =
-    ap (λ (s : Scripting). s.trace) c.script.view_is in
+    let same : c.script.inside.session.trace ≡ c.reply_all.new.script.state.trace =
+    ap (λ (s : Scripting). s.state.trace) c.script.view_is in
     let stays : c.script.inside.session.profile ≡ c.args.script.profile =
     ap (λ (s : Scripting). s.profile) c.script.view_is ∙ c.in-Ok.ensures.profile in
     let of : IsOutcome c.args.script.profile c.script.inside.session.trace c.outcome_of.result = subst
     (λ (p : Profile). IsOutcome p c.script.inside.session.trace c.outcome_of.result) stays c.outcome_of.ensures in
-    replied _ _ _ _ _ _ _ c.reply_all.new.script.trace tt _ c.in-Ok.ensures.all
+    replied _ _ _ _ _ _ _ c.reply_all.new.script.state tt _ c.in-Ok.ensures.all
     (subst (λ (u : List Entry). IsOutcome c.args.script.profile u c.outcome_of.result) same of)
 
 pub returns : goal.returns
-returns g c = stopped _ _ _ _ _ _ _ c.reply_all.new.script.trace c.in-Err.stop _ c.in-Err.ensures.all c.from.ensures
+returns g c = stopped _ _ _ _ _ _ _ c.reply_all.new.script.state c.in-Err.stop _ c.in-Err.ensures.all c.from.ensures

@@ -16,7 +16,8 @@ returns-in-Ok-read_trace g c =
     let session = c.in-Ok-session.session in
     script_taken _ _ _ _ _ _ _ _ _ c.in-Ok-read_trace.loading session.profile session.trace _
     (c.in-Ok-read_trace.ensures (under c.args.profile) c.new-empty.ensures)
-    (λ known is. (c.in-Ok-session.ensures.profile ∙ is.0, c.in-Ok-session.ensures.trace ∙ is.1)) c.edit_loaded.ensures
+    (λ known is. (c.in-Ok-session.ensures.profile ∙ is.0, c.in-Ok-session.ensures.trace ∙ is.1))
+    (rw c.in-Ok-session.ensures.base at c.edit_loaded.ensures)
 
 pub returns : goal.returns
 returns g c = inl (first_rejected of_trace _ _ _ _ _ _ _ c.in-Err.stop _

@@ -17,11 +17,11 @@ seen t c =
     ] in
     read ∙ c.view.ensures.cells (cells_of (state_before c.in-After.before.now))
 
-pub returns-in-Mode-key : goal.returns-in-Mode-key
-returns-in-Mode-key t c = rw (c.in-After.is, c.in-Mode-key.is) (c.cell_of_mode-in-Mode-key.ensures.cell
+pub returns-in-Mode-key-2 : goal.returns-in-Mode-key-2
+returns-in-Mode-key-2 t c = rw (c.in-After.is, c.in-Mode-key-2.is) (c.cell_of_mode-in-Mode-key-2.ensures.cell
     ∙ ap mode_cell (c.mode_of_cell.ensures
-    ∙ ap cell_mode (rw c.in-Mode-key.is at (seen t (goal.at.returns-in-Mode-key t c).Joined-view))))
+    ∙ ap cell_mode (rw c.in-Mode-key-2.is at (seen t (goal.at.returns-in-Mode-key-2 t c).Joined-view))))
 
-pub returns-in-Fd-key : goal.returns-in-Fd-key
-returns-in-Fd-key t c = rw (c.in-After.is, c.in-Fd-key.is)
-    (rw c.in-Fd-key.is at (seen t (goal.at.returns-in-Fd-key t c).Joined-view))
+pub returns-in-Fd-key-2 : goal.returns-in-Fd-key-2
+returns-in-Fd-key-2 t c = rw (c.in-After.is, c.in-Fd-key-2.is)
+    (rw c.in-Fd-key-2.is at (seen t (goal.at.returns-in-Fd-key-2 t c).Joined-view))

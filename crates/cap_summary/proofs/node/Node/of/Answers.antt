@@ -10,6 +10,7 @@ invariant_of-node c =
     record {
       len = c.len-len.ensures;
       parts = c.requires.parts;
+      processes = c.requires.processes;
       below = keeps_parts c.args.known c.kept-known.result c.args.content (length t) c.requires.kept within;
       few = omega (arith, c.requires.few, c.len-len.ensures);
       known = node_keeps c.args.known c.kept-known.result t c.requires.knows c.requires.settled within;

@@ -1,5 +1,5 @@
 use Rattle.std.specs.Prelude.{◌≡◌, ◌<◌, ◌++◌, [], List, length, get_or, take}
-use Rattle.cap_summary.specs.{Asks.IsOpen, Asks.asks_of, Preconditions.IsPulledBack, declared.ask.Ask.Ask}
+use Rattle.cap_summary.specs.{Asks.CanHold, Asks.asks_of, false, Preconditions.IsPulledBack, declared.ask.Ask.Ask}
 use Rattle.cap_summary.proofs.{sym, append-nil, All-push, Pulling.pulled_never, Pulling.pulled_put}
 use Rattle.cap_summary.proofs.up_to_three.UpToThree.before.Goals as goal
 
@@ -13,18 +13,19 @@ loop-ask-preserved c =
     let within : i < length asks = rw c.as_slice-ask-items.ensures.asks at c.loop-ask-test.true in
     let is : ask ≡ get_or asks i ask = rw c.as_slice-ask-items.ensures.asks at c.ask-item.is in
     let so_far = c.loop-ask.invariant in
-    let back : IsPulledBack first (take i asks) (kept ++ []) = rw append-nil so_far.back in
+    let back : IsPulledBack first (take i asks) (kept ++ []) false = rw append-nil so_far.back in
     let pulled = c.before-in-loop-ask.ensures in
     elim c.match-before.branch [
       | goal.in-Never w ↦ record {
-        back = rw w.before-is (rw append-nil at (pulled_never first asks i ask kept [] within is back
-            (λ s. sym (rw w.in-Never.is at (pulled.holds s)))));
+        back = rw w.before-is (rw append-nil at (pulled_never first asks i ask kept [] false within is back
+            (λ s. sym (rw w.in-Never.is at (pulled.holds s))) (λ s r. (rw w.in-Never.is at (pulled.agree s r)) tt)));
         can = rw w.before-is so_far.can;
       }
       | goal.in-Where w ↦
-          let may : IsOpen w.in-Where.ask = rw w.in-Where.is at pulled.open in record {
-            back = rw (w.before-is, w.push.ensures.asks) (rw append-nil at (pulled_put first asks i ask kept [] within is
-                back w.in-Where.ask (λ can. may) (rw w.in-Where.is at pulled.holds) (rw w.in-Where.is at pulled.names)));
-            can = rw (w.before-is, w.push.ensures.asks) (All-push IsOpen kept w.in-Where.ask so_far.can may);
+          let may : CanHold w.in-Where.ask = rw w.in-Where.is at pulled.can in record {
+            back = rw (w.before-is, w.push.ensures.asks) (rw append-nil at (pulled_put first asks i ask kept [] false within is
+                back w.in-Where.ask (λ can. may) (rw w.in-Where.is at pulled.holds) (rw w.in-Where.is at pulled.agree)
+                (rw w.in-Where.is at pulled.names)));
+            can = rw (w.before-is, w.push.ensures.asks) (All-push CanHold kept w.in-Where.ask so_far.can may);
           }
     ]
