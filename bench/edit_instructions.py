@@ -75,13 +75,14 @@ def told(program, line):
         sys.exit(f"{line}: {reply}")
 
 
-def counted(words, path, steps, folder):
-    """The instructions of one step, by their mean."""
+def counted(words, path, steps, folder, before=()):
+    """The instructions of one step, by their mean, after these commands."""
     out = os.path.join(folder, "out")
     valgrind = ["valgrind", "--tool=callgrind", "--instr-atstart=no", f"--callgrind-out-file={out}"]
     how = {"stdin": subprocess.PIPE, "stdout": subprocess.PIPE, "stderr": subprocess.PIPE, "text": True}
     program = subprocess.Popen([*valgrind, *words, path, "/dev/stdin"], **how)
-    told(program, "count")
+    for command in ("count", *before):
+        told(program, command)
     steps = list(steps)
     subprocess.run(["callgrind_control", "-i", "on", str(program.pid)], stdout=subprocess.DEVNULL, stderr=subprocess.DEVNULL)
     for change, look in steps:

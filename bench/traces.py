@@ -461,11 +461,40 @@ def held(count, call, times):
     return out
 
 
+def refused(count):
+    """As the trace of `quiet`, where so many lines, anywhere, are replaced by a close that capability mode refused."""
+
+    def make(lines):
+        rng = random.Random(5)
+        out = quiet(lines)
+        for at in rng.sample(range(64, len(out)), count * lines // 1_000_000):
+            out[at] = f"{out[at].split(' ')[0]} close(700) RET -1 errno 94"
+        return out
+
+    make.__name__ = f"refused_{count}"
+    return make
+
+
+def lacking(count):
+    """As the trace of `quiet`, where so many lines, anywhere, write to the descriptor whose limit in line 2 lacks that right."""
+
+    def make(lines):
+        rng = random.Random(6)
+        out = quiet(lines)
+        for at in rng.sample(range(64, len(out)), count * lines // 1_000_000):
+            out[at] = "100 write(0) RET 1"
+        return out
+
+    make.__name__ = f"lacking_{count}"
+    return make
+
+
 TRACES = {
     make.__name__: make
     for make in (
         quiet, loud, used, wide, descriptors, forms, mixed, crowd, hostile, pairs, spread, closes, socketpairs, chain, long_chain, narrowing, long_narrowing,
         limits, heirs, lineage, families, strangers, starts, packed, execs, turns,
+        refused(100), refused(2_500), refused(16_000), lacking(2_500), lacking(16_000),
     )
 }
 

@@ -214,6 +214,19 @@ class Capcheck:
             line = self.hear()
         return found
 
+    def changes(self):
+        """The findings that went since the last report, as they were, those that came, and how many there are. None in place of
+        both where it had nothing to compare with."""
+        line, went, came = self.ask(b"changes"), [], []
+        is_compared = line != b"all"
+        if not is_compared:
+            line = self.hear()
+        while not line.startswith(b"findings "):
+            sign, position, finding = line.decode("latin-1").split(" ", 2)
+            (went if sign == "-" else came).append((int(position), finding))
+            line = self.hear()
+        return (went, came) if is_compared else None, int(line[len("findings ") :])
+
     def end(self):
         """Ends it, and answers its status and what it said on standard error."""
         try:
@@ -247,9 +260,9 @@ class Session:
     def report(self):
         """All findings. Where that takes long, edits don't ask for them."""
         start = time.monotonic()
-        self.found = self.capcheck.report()
-        self.slow = time.monotonic() - start > PATIENCE
-        return self.found
+        found = self.capcheck.report()
+        self.found, self.slow = len(found), time.monotonic() - start > PATIENCE
+        return found
 
     def look(self):
         """Counts the findings; where memory runs out, how many there are isn't known."""
@@ -259,7 +272,7 @@ class Session:
             self.found = None
 
     def size(self):
-        found = "? findings" if self.found is None else many(len(self.found), "finding")
+        found = "? findings" if self.found is None else many(self.found, "finding")
         return f"{many(len(self.lines), 'line')}, {found}"
 
     def check(self, position, most=None):
@@ -306,14 +319,18 @@ class Session:
             raise ValueError(f"{self.program} replied {shown(reply)} where the trace has {many(len(self.lines), 'line')}")
         return INVERSE[verb], position, old
 
-    def edited(self, verb, position):
-        """Looks at the trace after an edit: the findings that went away, and those that came."""
+    def edited(self):
+        """Looks at the trace after an edit: the findings that went, as they stood before it, and those that came."""
         before, self.found = self.found, None
-        if not self.slow:
-            self.look()
-        if before is None or self.found is None:
+        if self.slow:
             return [], []
-        return difference(before, self.found, verb, position)
+        start = time.monotonic()
+        try:
+            changed, self.found = self.capcheck.changes()
+        except Refused:
+            return [], []
+        self.slow = time.monotonic() - start > PATIENCE
+        return changed if changed and before is not None else ([], [])
 
     def run(self, command, *words):
         """What another command of capcheck prints for the trace as it now is."""
@@ -326,21 +343,6 @@ class Session:
         if done.returncode not in (0, 1):
             raise Mistake(str(Ended(done.returncode, done.stderr.decode("utf-8", "backslashreplace"))))
         return lines
-
-
-def difference(before, after, verb, position):
-    """The findings that an edit took away, as they stood before it, and those that came of it, as they stand now."""
-
-    def moved(at):
-        if at < position or verb == "replace":
-            return at
-        if verb == "insert":
-            return at + 1
-        return at - 1 if at > position else None
-
-    kept = {(moved(at), finding): (at, finding) for at, finding in before}
-    now = set(after)
-    return [old for new, old in kept.items() if new not in now], [each for each in after if each not in kept]
 
 
 # The commands. Each takes the session and what was typed after its name.
@@ -441,7 +443,7 @@ def denials(session, typed):
 
 def tell(session, done, verb, position):
     """Says that an edit was made, and what it changed."""
-    gone, came = session.edited(verb, position)
+    gone, came = session.edited()
     print(f"{done}: {session.size()}")
     for word, found in (("gone", gone), ("new", came)):
         for each in found[:SHOWN]:

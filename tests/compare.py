@@ -85,7 +85,8 @@ USES = (
 )  # fmt: skip
 SPOILED = "closefrom() RET 0,closefrom(x) RET 0,closefrom(1048576) RET 0,closefrom(3) RET 1,closefrom(-1) RET 0".split(",")
 NUMBERS = ["", "0", "00", "01", "007", "-1", "+1", "1x", "x", "0x1", "1_0", "\xb2", "9" * 19, "1" + "0" * 19, "18446744073709551617"]
-WRONG = ["undo", "insert", "replace", "delete", "show", "counts", "report 1", "report 1 ", "Count", " count", "show\t1", "\r", "\x00", "\xff"]
+RUNS_OF_48, EDITS = 62, 40  # of a long trace; of its script
+WRONG = ["undo", "insert", "replace", "delete", "show", "counts", "report 1", "report 1 ", "changes 1", "changes ", "Count", " count", "show\t1", "\r", "\x00", "\xff"]
 START_WORDS = (
     "", "100", "0", "007", "100000", "in", "out", "unsure", "In", "unknown", "closed", "held", "ALL", "NONE", "3=", "=ALL", "3", "3=ALL",
     "3=ALL=ALL", "3==", "0=CAP_SEEK_TELL", "1048575=closed", "1048576=closed", "03=ALL", "3=all", "4=ALL|CAP_READ", "5=CAP_READ|", "\t", "\r",
@@ -340,7 +341,7 @@ class Maker:
         if kind < 0.75:
             return f"report {self.number(lines)} {self.number(lines)}"
         if kind < 0.9:
-            return self.choice(("count", "report"))
+            return self.choice(("count", "report", "changes", "changes"))
         if kind < 0.95:
             return self.choice(WRONG)
         return self.choice(("", "# note", "#", self.choice("#x") * self.choice(LENGTHS)))
@@ -361,8 +362,9 @@ class Maker:
             at, to = self.choice((1, 2, self.random.randrange(len(lines)) + 1)), self.random.randrange(len(lines)) + 1
             back, line = self.choice((at, at, to)), lines[at - 1]
             part = f"report {min(at, to)} {max(at, to) - 1}"
-            commands += [f"delete {at}", self.choice(("report", part, "count")), f"insert {back} {line}", "report"]
-            commands += [f"replace {to} {line}", self.choice(("report", part))] if self.chance(0.3) else []
+            commands += [f"delete {at}", self.choice(("report", part, "count", "changes")), f"insert {back} {line}", "report"]
+            commands += ["changes"] * self.chance(0.3)
+            commands += [f"replace {to} {line}", self.choice(("report", "changes", part))] if self.chance(0.3) else []
         return commands
 
     def script(self, trace):
@@ -550,6 +552,20 @@ def runs_of(maker):
                 yield Run(text, profile, "limits", begin, position=position)
 
 
+def long_edits(maker):
+    """A trace of more than 60 runs of 48 lines, and a script of many edits of it, each with `report` or `changes` after it."""
+    way = maker.choice((maker.reused, maker.swept, maker.limited, maker.descended))
+    lines = way(RUNS_OF_48 * 48)
+    count, commands = len(lines), ["report"]
+    for _ in range(EDITS):
+        verb, line = maker.choice(("insert", "replace", "delete")), maker.choice(lines)
+        at = maker.choice((1, count, maker.random.randrange(1, count + 1)))
+        commands.append(f"delete {at}" if verb == "delete" else f"{verb} {at} {line}")
+        count += {"insert": 1, "replace": 0, "delete": -1}[verb]
+        commands += maker.choice((["changes"], ["changes"], ["report"], ["report", "changes"], [], [f"report {at} {at}", "changes"]))
+    return Run("\n".join(lines) + "\n", maker.choice((1, 2)), "edit", script="\n".join([*commands, "changes"]) + "\n")
+
+
 def compare(program, seed, count):
     maker = Maker(seed)
     with tempfile.TemporaryDirectory() as folder:
@@ -560,6 +576,11 @@ def compare(program, seed, count):
                     run = run.smaller(program)
                     print(f"seed {seed}, case {turn}: capcheck {' '.join(run.words())}\n{run.shown(program)}")
                     sys.exit(1)
+        for turn in range(count // 100):
+            run = long_edits(maker)
+            if run.differs(program):
+                print(f"seed {seed}, edits {turn} of a long trace differ; its script:\n{run.script}")
+                sys.exit(1)
         os.chdir("/")
     print(f"{count} random traces, starts and scripts: as the reference has them")
 

@@ -692,16 +692,57 @@ def check(text, profile=1, start=""):
 # ---- scripts
 
 NUMBER = "(0|[1-9][0-9]{0,18})"
+RUNS = 4096  # of lines that are kept
 
 
-def reply(trace, line, profile):
-    """The reply to a line of a script. The trace is a list, which edits change."""
+class Origins:
+    """What is kept of the last report: its findings, and for each line of today its position then, or None where it is new."""
+
+    def __init__(self):
+        self.found, self.origins = [], None
+
+    def keep(self, found, count):
+        self.found, self.origins = found, list(range(1, count + 1))
+
+    def edit(self, at, taken, put):
+        if self.origins is None:
+            return
+        self.origins[at - 1 : at - 1 + taken] = [None] * put
+        pairs = zip([None] + self.origins, self.origins)
+        if sum(was is not None and (before is None or was != before + 1) for before, was in pairs) > RUNS:
+            self.origins = None
+
+    def changes(self, found):
+        """The reply to `changes`, for what is found now."""
+        if self.origins is None:
+            return "all\n" + "".join(f"+ {text}" for _, text in found) + f"findings {len(found)}\n"
+        then, now = by_line(self.found), by_line(found)
+        same = [(was, at) for at, was in enumerate(self.origins, 1) if was is not None and then.get(was) == now.get(at)]
+        stay, stayed = {at for _, at in same}, {was for was, _ in same}
+        went = [f"- {text}" for at, text in self.found if at not in stayed]
+        came = [f"+ {text}" for at, text in found if at not in stay]
+        return "".join(went + came) + f"findings {len(found)}\n"
+
+
+def by_line(found):
+    """What is found in each line, by its position."""
+    lines = {}
+    for at, text in found:
+        lines.setdefault(at, []).append(text.split(" ", 1)[1])
+    return lines
+
+
+def reply(trace, line, profile, last):
+    """The reply to a line of a script. The trace is a list, which edits change, and so do they what is kept of the last report."""
     if len(line) > 1056:
         raise Refused(1)
     if line == "count":
         return f"{len(trace)}\n"
-    if line == "report":
-        return report(findings(trace, profile))
+    if line in ("report", "changes"):
+        found = findings(trace, profile)
+        told = report(found) if line == "report" else last.changes(found)
+        last.keep(found, len(trace))
+        return told
     if words := re.fullmatch(f"report {NUMBER} {NUMBER}", line):
         first, last = int(words[1]), int(words[2])
         if not 1 <= first <= last <= len(trace):
@@ -717,11 +758,13 @@ def reply(trace, line, profile):
         return written(trace[at - 1]) + "\n"
     if asked == "delete":
         del trace[at - 1]
+        last.edit(at, 1, 0)
         return f"ok {len(trace)}\n"
     if asked == "insert" and len(trace) == FULL:
         raise Refused(8)
     read(words[3])
     trace[at - 1 : at if asked == "replace" else at - 1] = [words[3]]
+    last.edit(at, asked == "replace", 1)
     return f"ok {len(trace)}\n"
 
 
@@ -730,12 +773,12 @@ def replies(text, script, profile=1):
     trace, refusal = load(text)
     if refusal:
         return refusal, 2
-    out = []
+    out, last = [], Origins()
     for line in lines_of(script):
         if len(line) <= 1056 and is_skipped(line):
             continue
         try:
-            out.append(reply(trace, line, profile))
+            out.append(reply(trace, line, profile, last))
         except Refused as fault:
             out.append(f"refused E{fault.args[0]}\n")
     return "".join(out), 1 if findings(trace, profile) else 0

@@ -628,10 +628,10 @@ def other_programs():
 def short_of_memory():
     """Refusals with E9, of edits, reports and one of several lines: what comes after them is what was asked."""
     talk = [  # what is asked, and replied
-        ("count", "3"), ("report", "refused E9"), ("insert 1 x", "refused E9"), ("insert 1 x", "ok 4"), ("report", "findings 0"),
-        ("insert 1 y", "ok 5"), ("report", "refused E9"), ("report", "refused E9"), ("report", "findings 0"), ("show 1", "y"),
-        ("delete 1", "refused E9"), ("delete 1", "ok 4"), ("report", "findings 0"), ("show 1", "x"), ("delete 1", "ok 3"),
-        ("report", "findings 0"), ("show 1", "a=1"), ("show 2", "refused E9"), ("show 3", "c=3"), ("show 2", "b=2"),
+        ("count", "3"), ("report", "refused E9"), ("insert 1 x", "refused E9"), ("insert 1 x", "ok 4"), ("changes", "findings 0"),
+        ("insert 1 y", "ok 5"), ("changes", "refused E9"), ("report", "refused E9"), ("report", "findings 0"), ("show 1", "y"),
+        ("delete 1", "refused E9"), ("delete 1", "ok 4"), ("changes", "findings 0"), ("show 1", "x"), ("delete 1", "ok 3"),
+        ("changes", "findings 0"), ("show 1", "a=1"), ("show 2", "refused E9"), ("show 3", "c=3"), ("show 2", "b=2"),
     ]
     stub = file_of("talk", f"""#!/usr/bin/env python3
 import sys
