@@ -7,7 +7,7 @@
 #                   of the rules, each allocation refused in turn, hostile input, the recorder and the annotator, programs
 #                   under a small kernel with their limits put in; the object linked on Linux and for FreeBSD, and in archives;
 #                   that all wrong bodies fit the code, and that scripts can be read
-#   make examples   the same scripts alone, with ./capcheck
+#   make examples   the tests of the built program alone (tests/run.py), with ./capcheck
 #   make wrong      the wrong bodies that the gate leaves out (tests/wrong): the prover must refuse each, and it takes hours
 #   make refusals   each call that takes memory, with each of its allocations refused
 #   make bench      times the program, and reading alone, on traces of a million lines beside `wc -l`, and sessions, denials and
@@ -26,16 +26,8 @@ TRACE = examples/filter.trace
 PREFIX ?= /usr/local
 SOURCES = $(shell find crates -path '*/out' -prune -o -type f -name '*.rt' -print -o -type f -name '*.antt' -print) crates.txt HANDLES
 
-# What runs the built program, each with the program as its argument.
-SCRIPTS = tests/lint.py tests/wrong_bodies_fit.py tests/documents.py tests/examples.sh tests/missing_programs.py \
-	tests/rows.py tests/talks.py tests/out_of_memory.py tests/allocation_counts.py tests/bounds.py tests/hostile_input.py \
-	tests/compare.py tests/recorder.py tests/kernel.py tests/annotate.py tests/whatif.py tests/install.py
-
 .PHONY: all run test wrong examples refusals bench dist install clean
 all: capcheck
-
-# Those that try devices, and the object, of the same build: linked by others, and in archives.
-SCRIPTS += tests/failing_devices.py tests/native.py tests/archives.py
 
 # Ends with a sentence where one of these programs isn't there.
 needs = @for it in $(1); do command -v $$it >/dev/null || { echo "make $@ needs $$it, which isn't on the path (README.md)." >&2; exit 1; }; done
@@ -55,7 +47,7 @@ run:
 
 examples: capcheck
 	$(call needs,python3 bash)
-	for script in $(SCRIPTS); do $$script ./capcheck || exit 1; done
+	tests/run.py ./capcheck
 
 # Each allocation refused in turn, in a process that calls each function that takes memory.
 refusals:
@@ -65,7 +57,7 @@ refusals:
 
 test:
 	$(call needs,python3 bash $(RT))
-	tests/gate.py $(SCRIPTS) tests/refusals.py
+	tests/gate.py tests/run.py tests/refusals.py
 
 wrong:
 	$(call needs,git python3 $(RT))

@@ -282,7 +282,8 @@ def main(words):
     path, verdict = (words[3], "none, for this is a trial") if is_trial else built()
     prover, renamed = checked(path, identity.split()[-1], is_trial)
     if not is_trial:
-        subprocess.run([f"{ROOT}/tests/native.py", path.removesuffix(".o"), path, "all"], check=True)
+        env = {**os.environ, "OBJECT": path, "LINKED": "all"}  # for tests/native.py
+        subprocess.run([f"{ROOT}/tests/run.py", path.removesuffix(".o"), "-k", "native."], check=True, env=env)
     facts, when = facts_of(prover, verdict, identity), int(said("git", "log", "-1", "--format=%ct"))
     version = facts["capcheck"]
     os.makedirs(words[1], exist_ok=True)

@@ -1,17 +1,12 @@
-#!/usr/bin/env python3
-"""Counts the allocations of the program, as it edits a trace and reports: tests/allocation_counts.py PROGRAM
+"""How many allocations the program asks for, as it edits a trace and reports.
 
 Each edit of a trace of 16,384 lines takes no more than EDITS says, twice what it took when that was written: a session that
 builds its tree anew, or makes an edit twice, takes more. A report without findings takes no more than a few, however many
-descriptors are known. It needs a C compiler (tests/compiler.py).
+descriptors are known.
 """
 
-import os
-import subprocess
-import sys
-import tempfile
-
-import compiler
+import harness
+import refusals
 
 CALL = "100 foo() RET 0"
 LINES = 16_384
@@ -28,48 +23,31 @@ SOCKETS = 4096
 REPORT = 8
 
 
-def allocations(program, folder, library, lines, commands):
-    """How many allocations the program asks for, with this trace and this script."""
-    trace, script = (os.path.join(folder, name) for name in ("trace", "script"))
-    for path, text in ((trace, lines), (script, commands)):
-        with open(path, "w") as file:
-            file.writelines(line + "\n" for line in text)
-    reads, writes = os.pipe()
-    env = dict(os.environ, LD_PRELOAD=library, REFUSE_COUNTS=str(writes))
-    run = subprocess.run([program, "edit", trace, script], stdout=subprocess.PIPE, env=env, pass_fds=[writes], timeout=60)
-    os.close(writes)
-    count = os.read(reads, 20)
-    os.close(reads)
-    if run.returncode != 0 or b"refused" in run.stdout or len(run.stdout.splitlines()) != len(commands):
-        sys.exit(f"{commands}: status {run.returncode}, {run.stdout}")
-    return int(count)
+class Counts(harness.Test):
+    loads = "refuse"
 
+    def taken(self, lines, command):
+        """How many allocations this command takes after this trace is read."""
+        return self.count(lines, [command]) - self.count(lines, [])
 
-def main():
-    if len(sys.argv) != 2:
-        print(__doc__.strip(), file=sys.stderr)
-        sys.exit(2)
-    with tempfile.TemporaryDirectory() as folder:
-        library = compiler.library("refuse", folder)
-        compiler.loads(sys.argv[1])
+    def count(self, lines, commands):
+        """How many allocations the program asks for, with this trace and this script."""
+        for name, text in (("trace", lines), ("script", commands)):
+            harness.save(name, "".join(line + "\n" for line in text))
+        answer, told = refusals.loading(self.library, ["capcheck", "edit", "trace", "script"], tells="REFUSE_COUNTS")
+        self.assertEqual((0, False, len(commands)), (answer.status, "refused" in answer.out, answer.out.count("\n")), f"{commands}: {answer}")
+        return int(told)
 
-        def count(lines, commands):
-            return allocations(os.path.abspath(sys.argv[1]), folder, library, lines, commands)
+    def test_edits(self):
+        for edit, most in EDITS.items():
+            taken = self.taken([CALL] * LINES, edit)
+            self.same(f"{edit}: {taken} allocations, with {LINES:,} lines, are at most {most}", True, taken <= most, "counts of allocations")
 
-        calls = [CALL] * LINES
-        load = count(calls, [])
-        edits = {edit: count(calls, [edit]) - load for edit in EDITS}
+    def test_reports(self):
         begun = ["100 @start()"]
         opened = begun + [f"100 socket(0) RET {fd}" for fd in range(SOCKETS)]
         used = opened + [f"100 @uses({fd},CAP_READ)" for fd in range(SOCKETS)]
-        reports = [count(lines, ["report"]) - count(lines, []) for lines in (begun, opened, used)]
-    for edit, taken in edits.items():
-        print(f"{edit}: {taken} allocations, with {LINES:,} lines")
-        if taken > EDITS[edit]:
-            sys.exit(f"{edit} took {taken} allocations, more than {EDITS[edit]}")
-    print(f"a report: {reports[0]} allocations, {reports[1]} with {SOCKETS} sockets, and {reports[2]} where each is used")
-    if max(reports) > reports[0] + REPORT:
-        sys.exit(f"a report took {max(reports)} allocations, more than {REPORT} beyond {reports[0]}")
-
-
-main()
+        least = self.taken(begun, "report")
+        for what, lines in (("", begun), (f" of {SOCKETS} sockets", opened), (f" of {SOCKETS} used sockets", used)):
+            taken = self.taken(lines, "report")
+            self.same(f"a report{what}: {taken} allocations, at most {REPORT} beyond {least}", True, taken <= least + REPORT, "counts of allocations")

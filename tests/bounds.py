@@ -1,5 +1,4 @@
-#!/usr/bin/env python3
-"""Whether time and memory stay bounded where the answers alone don't tell: tests/bounds.py PROGRAM
+"""Whether time and memory stay bounded where the answers alone don't tell.
 
 - A report reads what is known of the trace, and not its lines: 1,000 reports of 100,000 lines in which nothing is found take no
   more processor time than ten loads of that trace.
@@ -9,16 +8,24 @@
 Each is a ratio of runs side by side, so it doesn't depend on the machine.
 """
 
-import os
-import subprocess
 import sys
-import tempfile
+
+import harness
 
 LOADS = 10
 MORE = 4_000_000  # bytes
 REPORTED, REPORTS = 100_000, 1_000
 EDITED, EDITS, FEW_EDITS = 1_024, 50_000, 500
 CHECKED, FEW_CHECKED = 900_000, 9_000
+MARKERS = ("@uses({},CAP_READ|CAP_EVENT)", "@global()", "@refused({},CAP_WRITE)")
+# By which each edit replaces the line in the middle, in turn. One of them changes what is known, and one is a marker.
+WAYS = ("getpid() RET 105", "cap_rights_limit(2,CAP_READ|CAP_WRITE|CAP_EVENT) RET 0", "@uses(2,CAP_READ|CAP_EVENT)")
+# In a small Python of its own, since the peak of a process is at least what the one had that started it.
+MEASURE = """import os, sys
+out = os.open("out", os.O_RDWR | os.O_CREAT | os.O_TRUNC)
+status, used = os.wait4(os.posix_spawn(sys.argv[1], sys.argv[1:], {}, file_actions=[(os.POSIX_SPAWN_DUP2, out, 1)]), 0)[1:]
+print(status, used.ru_utime, used.ru_maxrss, open("out").read().count("refused"))
+"""
 
 
 def lines(count):
@@ -26,66 +33,41 @@ def lines(count):
     yield "100 @start(0,1,2,3)"
     for child in range(101, 116):
         yield f"100 fork() RET {child}"
-    markers = ("@uses({},CAP_READ|CAP_EVENT)", "@global()", "@refused({},CAP_WRITE)")
     for at in range(count - 16):
-        what = markers[at // 10 % 3] if at % 10 == 9 else ("read" if at % 3 else "write") + f"({{}}) RET {at % 1000}"
+        what = MARKERS[at // 10 % 3] if at % 10 == 9 else ("read" if at % 3 else "write") + f"({{}}) RET {at % 1000}"
         yield f"{100 + at % 16} {what.format(at % 4)}"
 
 
-def edits(count):
-    """Each in the middle, by three lines in turn. One of them changes what is known, and one is a marker."""
-    ways = ("getpid() RET 105", "cap_rights_limit(2,CAP_READ|CAP_WRITE|CAP_EVENT) RET 0", "@uses(2,CAP_READ|CAP_EVENT)")
-    for at in range(count):
-        yield f"replace {EDITED // 2} 105 {ways[at % 3]}"
+class Bounds(harness.Test):
+    is_long = True
 
-
-def ran(words, out):
-    """The user seconds of a run that must find nothing, and its peak memory in bytes."""
-    with open(out, "wb") as file:
-        process = subprocess.Popen(words, stdin=subprocess.DEVNULL, stdout=file)
-        status, used = os.wait4(process.pid, 0)[1:]
-    process.returncode = status
-    with open(out, "rb") as file:
-        replies = file.read()
-    if status != 0 or b"refused" in replies:
-        sys.exit(f"{' '.join(words)} ended with {status}: {replies[-200:]}")
-    return used.ru_utime, used.ru_maxrss * 1024
-
-
-def main():
-    if len(sys.argv) != 2:
-        print(__doc__.strip(), file=sys.stderr)
-        sys.exit(2)
-    program, wrong = os.path.abspath(sys.argv[1]), []
-    with tempfile.TemporaryDirectory() as folder:
-        trace, script, out = (os.path.join(folder, name) for name in ("trace", "script", "out"))
-
-        def put(path, text):
-            with open(path, "w") as file:
+    def measured(self, words, trace, script=()):
+        """The user seconds of a run that must find nothing, and its peak memory in bytes."""
+        for name, text in (("trace", trace), ("script", script)):
+            with open(name, "w") as file:
                 file.writelines(line + "\n" for line in text)
+        said = harness.run([sys.executable, "-S", "-c", MEASURE, harness.program(), *words.split()])
+        status, seconds, peak, wrong = said.out.split()
+        self.assertEqual(("0", "0"), (status, wrong), f"{words} ended with {status}, and refused {wrong}: {said.said}")
+        return float(seconds), int(peak) * 1024
 
-        def session(commands):
-            put(script, commands)
-            return ran([program, "edit", trace, script], out)
+    def peak(self, words, *texts):
+        return self.measured(words, *texts)[1]
 
-        put(trace, lines(REPORTED))
-        load, reports = session(["count"])[0], session(["report"] * REPORTS)[0]
-        print(f"{REPORTS:,} reports of {REPORTED:,} lines take {reports / load:.1f} loads, the first of them counted")
-        if reports > LOADS * load + 1:
-            wrong.append(f"more than {LOADS} loads")
-        put(trace, lines(EDITED))
-        few, many = session(edits(FEW_EDITS))[1], session(edits(EDITS))[1]
-        print(f"a session with {EDITS:,} edits has {(many - few) / 1e6:.1f} MB more at its peak than one with {FEW_EDITS}")
-        if many > few + MORE:
-            wrong.append("memory grows with the edits")
-        peaks = []
-        for count in (FEW_CHECKED, CHECKED):
-            put(trace, lines(count))
-            peaks.append(ran([program, "check", trace], out)[1])
-        print(f"a check of {CHECKED:,} lines has {(peaks[1] - peaks[0]) / 1e6:.1f} MB more at its peak than one of {FEW_CHECKED:,}")
-        if peaks[1] > peaks[0] + MORE:
-            wrong.append("memory grows with the lines of a check")
-    sys.exit("; ".join(wrong) if wrong else 0)
+    def bounded(self, what, most, got):
+        self.same(f"{what}: {got:.2f}, at most {most:.2f}", True, got <= most, "bounds")
 
+    def test_reports(self):
+        load, reports = (self.measured("edit trace script", lines(REPORTED), script)[0] for script in (["count"], ["report"] * REPORTS))
+        self.bounded(f"seconds of {REPORTS:,} reports of {REPORTED:,} lines, of which a load takes {load:.2f}", LOADS * load + 1, reports)
 
-main()
+    def test_edits(self):
+        few, many = (
+            self.peak("edit trace script", lines(EDITED), (f"replace {EDITED // 2} 105 {WAYS[at % 3]}" for at in range(count)))
+            for count in (FEW_EDITS, EDITS)
+        )
+        self.bounded(f"bytes at the peak of {EDITS:,} edits more than of {FEW_EDITS}", MORE, many - few)
+
+    def test_checks(self):
+        few, many = (self.peak("check trace", lines(count)) for count in (FEW_CHECKED, CHECKED))
+        self.bounded(f"bytes at the peak of a check of {CHECKED:,} lines more than of {FEW_CHECKED:,}", MORE, many - few)

@@ -1,36 +1,34 @@
-#!/usr/bin/env python3
 """Holds the program against reference.py in both profiles: on random traces, some of them with a broken line, and for each on
 a random start and a random script, with good and broken lines, on the explanation of a random line, on denials, and on limits,
 before some lines and after each line that made a descriptor. A script of limits that the program printed is given to its
-`edit` too: each of its lines must be accepted, and the report after it must have no finding that is new.
+`edit` too: each of its lines must be accepted, and the report after it must have no finding that is new. The first case of a
+class that the two answer differently is told with as few lines as still show it.
 
-    tests/compare.py PROGRAM [SEED [COUNT]]
+By hand, without a program:
+
     tests/compare.py --met [SEED [COUNT]]
     tests/compare.py --laws [SEED [COUNT]]
 
-The first case that the two answer differently is printed with as few lines as still show it, and the status is then 1.
+With `--met` it is printed how often the random traces met each rule of profile 2, and each marker of needs with a finding, a
+denial or a limit.
 
-With `--met` no program runs, and it is printed how often the random traces met each rule of profile 2, and each marker of needs
-with a finding, a denial or a limit.
-
-With `--laws` no program runs either: the laws of limits are tried on those of reference.py. With the limits in the trace nothing
-new is found; with a right less in any of them it is; and the line that is named as in the way of cap_enter is the first that
-capability mode forbids. This is run by hand, as `tests/compare.py --laws 1 1000` (a minute), when the rules of limits change.
+With `--laws` the laws of limits are tried on those of reference.py. With the limits in the trace nothing new is found; with a
+right less in any of them it is; and the line that is named as in the way of cap_enter is the first that capability mode
+forbids. This is run as `tests/compare.py --laws 1 1000` (a minute), when the rules of limits change.
 """
 
 import functools
 import itertools
-import os
 import random
 import re
-import subprocess
 import sys
-import tempfile
 from collections import Counter
 from typing import NamedTuple, Optional
 
+import harness
 import reference
 
+CASES, SHARES = 500, 4  # random cases, and the classes that try a share of them each
 PIDS = ("100", "101", "102", "103")
 PLACES = (0, 1, 2, 3, 4, 5, 6, 63, 64, 65, 1_048_575)
 PATHS = ("a", "/a", "", "../x", "a\\x0ab", '\\"q', "b c", "/", "x,y", "p)q", "(", "/usr/lib")
@@ -47,7 +45,9 @@ EXECS = "execve execve fexecve closefrom closefrom".split()
 MAKERS = "open open socket socketpair pipe2 pipe".split()
 FLAGGED = MAKERS * 2 + "openat openat dup dup2 dup2 cap_ioctls_limit cap_fcntls_limit".split() + ["fcntl"] * 9 + EXECS
 FLAG_COMMANDS = "F_DUPFD F_DUPFD_CLOEXEC F_DUP2FD F_DUP2FD F_DUP2FD_CLOEXEC F_DUP2FD_CLOEXEC".split() + ["F_SETFD"] * 5
-CLOSE_ON_EXEC = {"socket": "SOCK_CLOEXEC", "socketpair": "SOCK_CLOEXEC", "open": "O_CLOEXEC", "openat": "O_CLOEXEC", "pipe2": "O_CLOEXEC"}
+FLAGS_OF_OPEN = reference.PLAIN_OF_OPENAT + ["O_DIRECT", "AT_REMOVEDIR", "SOCK_CLOEXEC"]
+FLAGS_AT, OTHER_FLAGS = reference.PLAIN + ["AT_RESOLVE_BENEATH", "O_RDONLY"], ["SOCK_STREAM", "O_CLOEXEC", "PF_INET", "SOCK_CLOEXEC", "FD_CLOEXEC"]
+FLAGS_OF_MMAP = [[], "PROT_READ PROT_WRITE PROT_EXEC PROT_NONE".split(), "MAP_SHARED MAP_PRIVATE MAP_ANON".split()]  # by the argument's place
 # Lines of a story: two descriptors A and B, a child C, words for flags F and W, and rights R.
 MAKE = (
     'open("a",F) RET A', 'openat(AT_FDCWD,"a",F) RET A', 'openat(B,"a",F) RET A', "socket(F) RET A", "socketpair(F) RET A,B",
@@ -83,14 +83,26 @@ USES = (
     "cap_rights_limit(A,R) RET 0", "cap_rights_limit(A,CAP_PREAD|CAP_WRITE|CAP_FSTAT|CAP_LOOKUP) RET 0", 'open("a",F) RET A', 'open("a",F) RET -1 errno 94',
     "@uses(A,R)", "@uses(A,CAP_EVENT)", "@uses(A,CAP_PREAD|CAP_UNLINKAT)", "@refused(A,CAP_FSTAT|CAP_EVENT)", "@global()",
 )  # fmt: skip
+IN_CHILD = ("close(A) RET 0", "cap_rights_limit(A,R) RET 0", "dup2(A,B) RET B", "read(A) RET 1", "write(A) RET 1")
+REUSES = ("fork() RET C", "vfork() RET C", "pdfork() RET C,B", "@exit()", "@start(A)", 'open("a",F) RET A', "close(A) RET 0", *SHOW)
+SWEEPS = ('execve("/bin/x") RET 0', "closefrom(A) RET 0", 'open("a",F) RET A', "socket(F) RET A", "dup2(A,B) RET B", "fork() RET C", *SHOW)
+LIMITERS = ("cap_rights_limit(A,R) RET 0", "dup2(A,B) RET B", "dup(A) RET B", 'open("a",F) RET A', *SHOW)
 SPOILED = "closefrom() RET 0,closefrom(x) RET 0,closefrom(1048576) RET 0,closefrom(3) RET 1,closefrom(-1) RET 0".split(",")
 NUMBERS = ["", "0", "00", "01", "007", "-1", "+1", "1x", "x", "0x1", "1_0", "\xb2", "9" * 19, "1" + "0" * 19, "18446744073709551617"]
+MOST_SHOWN = 50_000  # bytes of a text that is told where a case fails
 RUNS_OF_48, EDITS = 62, 40  # of a long trace; of its script
-WRONG = ["undo", "insert", "replace", "delete", "show", "counts", "report 1", "report 1 ", "changes 1", "changes ", "Count", " count", "show\t1", "\r", "\x00", "\xff"]
+NO_LINES = ("", " ", "# note", "100", "100 @start() ", "100  @exit()", " 100 @exit()")
+WRONG = (
+    "undo", "insert", "replace", "delete", "show", "counts", "report 1", "report 1 ", "changes 1", "changes ", "Count", " count", "show\t1", "\r",
+    "\x00", "\xff",
+)  # fmt: skip
 START_WORDS = (
     "", "100", "0", "007", "100000", "in", "out", "unsure", "In", "unknown", "closed", "held", "ALL", "NONE", "3=", "=ALL", "3", "3=ALL",
     "3=ALL=ALL", "3==", "0=CAP_SEEK_TELL", "1048575=closed", "1048576=closed", "03=ALL", "3=all", "4=ALL|CAP_READ", "5=CAP_READ|", "\t", "\r",
 )  # fmt: skip
+# Of the long lines the rights make 1,024 bytes, and 1,025.
+NOTES = ("", "# note", "#" + "x" * 1023, "#" + "x" * 1024)
+NOTES_OF_STARTS = NOTES + tuple("99998 out closed 0=" + "|".join(["CAP_FSYNC"] * fsyncs + ["CAP_READ"] * reads) for fsyncs, reads in ((7, 104), (8, 103)))
 LENGTHS = (1023, 1024, 1025, 1047, 1048, 1056, 1057, 3000)
 
 
@@ -128,58 +140,43 @@ class Maker:
         return "|".join("CAP_" + self.choice(pool) for _ in range(self.random.randrange(1, 5)))
 
     def flags(self, name, place):
-        words = self.usual_flags(name, place)
-        if name not in CLOSE_ON_EXEC or self.chance(0.5):
+        pool = FLAGS_OF_MMAP[place] if name == "mmap" else FLAGS_AT if name in reference.AT_CALLS else OTHER_FLAGS
+        words = self.words(FLAGS_OF_OPEN if name in ("open", "openat") else pool)
+        if name not in reference.CLOSE_ON_EXEC or self.chance(0.5):
             return words
-        both = [CLOSE_ON_EXEC[name]] + ([words] if words != "0" else [])
+        both = [reference.CLOSE_ON_EXEC[name]] + [words] * (words != "0")
         return "|".join(self.random.sample(both, len(both)))
-
-    def usual_flags(self, name, place):
-        if name in ("open", "openat"):
-            return self.words(reference.PLAIN_OF_OPENAT + ["O_DIRECT", "AT_REMOVEDIR", "SOCK_CLOEXEC"])
-        if name == "mmap":
-            return self.words(("PROT_READ PROT_WRITE PROT_EXEC PROT_NONE", "MAP_SHARED MAP_PRIVATE MAP_ANON")[place - 1].split())
-        if name in reference.AT_CALLS:
-            return self.words(reference.PLAIN + ["AT_RESOLVE_BENEATH", "O_RDONLY"])
-        return self.words(["SOCK_STREAM", "O_CLOEXEC", "PF_INET", "SOCK_CLOEXEC", "FD_CLOEXEC"])
 
     def arguments(self, name):
         if name in ("sendto", "sendmsg"):
             return [self.place()] + (["DEST"] if self.chance(0.5) else [])
         if name == "fcntl":
             command = self.choice(FLAG_COMMANDS if self.execs and self.chance(0.8) else COMMANDS)
-            third = {"F_SETFD": self.choice(("0", "FD_CLOEXEC", "FD_CLOFORK", "FD_CLOEXEC|FD_CLOFORK"))}
-            third |= {copies: self.place() for copies in reference.COPIES_TO}
+            words, *places = self.choice(("0", "FD_CLOEXEC", "FD_CLOFORK", "FD_CLOEXEC|FD_CLOFORK")), self.place(), self.place()
             first = self.place()
-            if command in reference.COPIES_TO and self.chance(0.3):
-                third[command] = first
-            return [first, command] + ([third[command]] if command in third else [])
-        made = {
-            reference.descriptor: lambda place: self.place(),
-            reference.directory: lambda place: "AT_FDCWD" if self.chance(0.25) else self.place(),
-            reference.path: lambda place: f'"{self.choice(PATHS)}"',
-            reference.rights: lambda place: self.rights(),
-            reference.flags: lambda place: self.flags(name, place),
-        }
-        given = [made[kind](place) for place, kind in enumerate(reference.FORMS[name])]
+            if command in reference.COPIES_TO:
+                return [first, command, first if self.chance(0.3) else places[reference.COPIES_TO.index(command)]]
+            return [first, command] + [words] * (command == "F_SETFD")
+        given = [self.argument(name, kind, place) for place, kind in enumerate(reference.FORMS[name])]
         return given[:1] * 2 if name == "dup2" and self.chance(0.3) else given
+
+    def argument(self, name, kind, place):
+        if kind in (reference.descriptor, reference.directory):
+            return "AT_FDCWD" if kind == reference.directory and self.chance(0.25) else self.place()
+        return f'"{self.choice(PATHS)}"' if kind == reference.path else self.rights() if kind == reference.rights else self.flags(name, place)
 
     def result(self, name, given):
         if self.chance(0.1 if self.execs and name in FLAGGED else 0.35):
             return f"-1 errno {self.choice((93, 93, 93, 94, 94, 9, 2, 4, 35))}"
         if name in reference.ZERO:
             return "0"
-        if name in reference.MAKES_TWO:
-            return self.place() + "," + self.place()
-        if name == "dup2":
-            return given[1]
-        if name == "fcntl" and given[1] in reference.COPIES_TO:
-            return given[2]
+        if name == "dup2" or (name == "fcntl" and given[1] in reference.COPIES_TO):
+            return given[-1]
         if name in ("fork", "vfork", "pdfork"):
             child = str(self.choice((0,) + PIDS))
             return child + "," + self.place() if name == "pdfork" else child
-        if name in reference.MAKES_ONE or (name == "fcntl" and given[1] in reference.COPIES):
-            return self.place()
+        if name in reference.MAKES_ONE + reference.MAKES_TWO or (name == "fcntl" and given[1] in reference.COPIES):
+            return self.place() + ("," + self.place() if name in reference.MAKES_TWO else "")
         return str(self.choice((0, 1, 5, reference.MOST)))
 
     def line(self):
@@ -191,8 +188,7 @@ class Maker:
         if self.execs and kind < 0.10 and self.chance(0.7):
             kind = 0.5
         if kind < 0.06:
-            listed = sorted(self.random.sample(range(8), self.random.randrange(6)))
-            return f"{pid} @start({','.join(map(str, listed))})"
+            return f"{pid} @start({','.join(map(str, sorted(self.random.sample(range(8), self.random.randrange(6)))))})"
         if kind < 0.10:
             return pid + " " + self.choice(("@exit()", f"@foreign({self.place()})"))
         if kind < 0.13:
@@ -208,11 +204,9 @@ class Maker:
         return f"{pid} {name}({','.join(given)}) RET {self.result(name, given)}"
 
     def broken(self, line):
-        place = self.random.randrange(len(line) + 1)
-        byte = self.choice('()"\\|,@ 019aZ_-#x\r\t')
-        return self.choice(
-            (line[:place] + byte + line[place:], line[:place] + line[place + 1 :], line[:place] + byte + line[place + 1 :], line[:place])
-        )
+        place, byte = self.random.randrange(len(line) + 1), self.choice('()"\\|,@ 019aZ_-#x\r\t')
+        before, at, after = line[:place], line[place : place + 1], line[place + 1 :]
+        return self.choice((before + byte + at + after, before + after, before + byte + after, before))
 
     def story(self):
         """What becomes of a descriptor over an exec or a closefrom: it is made, perhaps limited, and changed, and in the end calls
@@ -262,27 +256,23 @@ class Maker:
             lines.append(f"{pids[-1]} fork() RET {child}")
             pids.append(child)
             for pid in (child, self.choice(pids)):
-                line = self.choice(("close(A) RET 0", "cap_rights_limit(A,R) RET 0", "dup2(A,B) RET B", "read(A) RET 1", "write(A) RET 1"))
-                lines.append(f"{pid} {self.filled(line, *self.random.sample(range(6), 2), child)}")
+                lines.append(f"{pid} {self.filled(self.choice(IN_CHILD), *self.random.sample(range(6), 2), child)}")
         return lines
 
     def reused(self, length):
         """Forks whose numbers were used before, and what ends a process."""
-        ways = ("fork() RET C", "vfork() RET C", "pdfork() RET C,B", "@exit()", "@start(A)", 'open("a",F) RET A', "close(A) RET 0", *SHOW)
-        return [f"{self.choice(PIDS)} {self.filled(self.choice(ways), *self.random.sample(range(70), 2), self.choice(PIDS))}" for _ in range(length)]
+        return [f"{self.choice(PIDS)} {self.filled(self.choice(REUSES), *self.random.sample(range(70), 2), self.choice(PIDS))}" for _ in range(length)]
 
     def swept(self, length):
         """Execs and closefroms of two processes in turn, with new descriptors between them."""
-        ways = ('execve("/bin/x") RET 0', "closefrom(A) RET 0", 'open("a",F) RET A', "socket(F) RET A", "dup2(A,B) RET B", "fork() RET C", *SHOW)
-        return [f"{self.choice(PIDS[:2])} {self.filled(self.choice(ways), *self.random.sample(PLACES, 2), PIDS[1])}" for _ in range(length)]
+        return [f"{self.choice(PIDS[:2])} {self.filled(self.choice(SWEEPS), *self.random.sample(PLACES, 2), PIDS[1])}" for _ in range(length)]
 
     def limited(self, length):
         """Limits to nothing and to everything in turn, and some others, of descriptors that are copies of each other."""
         turns = itertools.cycle(("NONE", "ALL"))
-        ways = ("cap_rights_limit(A,R) RET 0", "dup2(A,B) RET B", "dup(A) RET B", 'open("a",F) RET A', *SHOW)
         lines = ["100 @start(0,1,2)"]
         for _ in range(length):
-            line = f"cap_rights_limit(A,{next(turns)}) RET 0" if self.chance(0.5) else self.choice(ways)
+            line = f"cap_rights_limit(A,{next(turns)}) RET 0" if self.chance(0.5) else self.choice(LIMITERS)
             lines.append(f"100 {self.filled(line, *self.random.sample(range(4), 2), 101)}")
         return lines
 
@@ -315,7 +305,7 @@ class Maker:
             place = self.random.randrange(len(lines))
             lines[place] = self.broken(lines[place]) if self.chance(0.8) else "100 " + self.choice(SPOILED)
         if self.chance(0.2):
-            note = self.choice(("", "# note", "#" + "x" * 1023, "#" + "x" * 1024))
+            note = self.choice(NOTES)
             lines.insert(self.random.randrange(len(lines) + 1), note)
         return "\n".join(lines) + ("\n" if self.chance(0.7) else "")
 
@@ -324,35 +314,27 @@ class Maker:
 
     def edited(self):
         kind = self.random.random()
-        if kind < 0.1:
-            return self.choice(("", " ", "# note", "100", "100 @start() ", "100  @exit()", " 100 @exit()"))
         if kind < 0.15:
-            return "100 foo(" + "x" * (self.choice(LENGTHS) - 15) + ") RET 0"
+            return self.choice(NO_LINES) if kind < 0.1 else "100 foo(" + "x" * (self.choice(LENGTHS) - 15) + ") RET 0"
         line = self.choice(self.story()) if self.execs and self.chance(0.5) else self.line()
         return self.broken(line) if kind < 0.3 else line
 
     def command(self, lines):
         kind = self.random.random()
-        if kind < 0.45:
-            name = self.choice(("insert", "insert", "replace"))
-            return f"{name} {self.number(lines)} {self.edited()}"
         if kind < 0.65:
-            return f"{self.choice(('delete', 'show'))} {self.number(lines)}"
+            name, at = self.choice(("insert", "insert", "replace") if kind < 0.45 else ("delete", "show")), self.number(lines)
+            return f"{name} {at}" + (f" {self.edited()}" if kind < 0.45 else "")
         if kind < 0.75:
             return f"report {self.number(lines)} {self.number(lines)}"
-        if kind < 0.9:
-            return self.choice(("count", "report", "changes", "changes"))
         if kind < 0.95:
-            return self.choice(WRONG)
+            return self.choice(("count", "report", "changes", "changes") if kind < 0.9 else WRONG)
         return self.choice(("", "# note", "#", self.choice("#x") * self.choice(LENGTHS)))
 
     def spoiled(self, command):
         """Mostly the command unchanged."""
         kind = self.random.random()
-        if kind < 0.04:
-            return command + self.choice((" ", "\r", " 1", "\t", "\x00"))
         if kind < 0.06:
-            return command.replace(" ", "  ", self.choice((1, 2)))
+            return command + self.choice((" ", "\r", " 1", "\t", "\x00")) if kind < 0.04 else command.replace(" ", "  ", self.choice((1, 2)))
         return self.broken(command) if kind < 0.1 else command
 
     def undone(self, lines):
@@ -372,49 +354,33 @@ class Maker:
         if lines > 100 and self.chance(0.5):
             return "\n".join(self.undone(trace.splitlines())) + "\n"
         commands = [self.spoiled(self.command(lines)) for _ in range(self.random.randrange(30))]
-        if self.chance(0.3):
-            commands += [f"show {at}" for at in range(1, lines + 5)]
-        if self.chance(0.3):
-            commands += ["report"]
+        commands += [f"show {at}" for at in range(1, lines + 5)] if self.chance(0.3) else []
+        commands += ["report"] * self.chance(0.3)
         return "\n".join(commands) + ("\n" if self.chance(0.7) else "")
 
-    def position(self, trace):
-        """A line to be explained, often one near the end, and now and then none."""
+    def position(self, trace, is_cut=False):
+        """A line to be explained, often one near the end, or one before which limits are asked for, often an early one; now and then none."""
         lines = trace.count("\n") + 1
-        near = max(1, lines - self.positions.randrange(12))
-        return self.positions.choice((near, near, self.positions.randint(1, lines), self.positions.randint(0, lines + 2)))
-
-    def cut(self, trace):
-        """A line before which limits are asked for, and now and then none."""
-        lines = trace.count("\n") + 1
-        early = self.positions.randint(1, max(1, lines // 2))
-        return self.positions.choice((early, early, self.positions.randint(1, lines), self.positions.randint(0, lines + 2)))
+        often = self.positions.randint(1, max(1, lines // 2)) if is_cut else max(1, lines - self.positions.randrange(12))
+        return self.positions.choice((often, often, self.positions.randint(1, lines), self.positions.randint(0, lines + 2)))
 
     # -- starts
 
-    def start_cell(self):
-        kind = self.random.random()
-        return self.choice(("unknown", "closed")) if kind < 0.3 else "ALL" if kind < 0.5 else self.rights()
-
     def start_line(self, pid):
-        listed = set(self.random.sample(range(8), self.random.randrange(4)) + [int(self.place()) for _ in range(self.random.randrange(3))])
-        cells = "".join(f" {place}={self.start_cell()}" for place in sorted(listed))
-        return f"{pid} {self.choice(('in', 'out', 'out', 'unsure'))} {self.start_cell()}{cells}"
+        def cell():
+            kind = self.random.random()
+            return self.choice(("unknown", "closed")) if kind < 0.3 else "ALL" if kind < 0.5 else self.rights()
 
-    def long_start_line(self, length):
-        """A line of so many bytes, by one right that is named often and another one that is longer by a byte."""
-        begin = "99998 out closed 0="
-        more = length - len(begin) + 1
-        return begin + "|".join(["CAP_FSYNC"] * (more % 9) + ["CAP_READ"] * ((more - 10 * (more % 9)) // 9))
+        listed = set(self.random.sample(range(8), self.random.randrange(4)) + [int(self.place()) for _ in range(self.random.randrange(3))])
+        cells = "".join(f" {place}={cell()}" for place in sorted(listed))
+        return f"{pid} {self.choice(('in', 'out', 'out', 'unsure'))} {cell()}{cells}"
 
     def spoiled_start(self, line):
         """The line with a fault, or with two."""
         words = line.split(" ")
         kind = self.random.random()
-        if kind < 0.4:
-            return self.broken(line)
         if kind < 0.6:
-            return " ".join(words[: self.random.randrange(len(words))]) + self.choice(("", " "))
+            return self.broken(line) if kind < 0.4 else " ".join(words[: self.random.randrange(len(words))]) + self.choice(("", " "))
         if kind < 0.9:
             words[self.random.randrange(len(words))] = self.choice(START_WORDS)
             return " ".join(words)
@@ -429,13 +395,14 @@ class Maker:
             lines[place] = self.spoiled_start(lines[place])
         if lines and self.chance(0.1):
             self.random.shuffle(lines)
-        if lines and self.chance(0.05):
-            lines.append(self.choice(lines))
+        lines += [self.choice(lines)] if lines and self.chance(0.05) else []
         if self.chance(0.2):
-            notes = ["", "# note", "#" + "x" * 1023, "#" + "x" * 1024]
-            note = self.choice(notes + [self.long_start_line(1024), self.long_start_line(1025)])
+            note = self.choice(NOTES_OF_STARTS)
             lines.insert(self.choice((0, len(lines))), note)
         return "\n".join(lines) + ("\n" if self.chance(0.7) else "")
+
+
+ANSWERS = {"check": reference.check, "explain": reference.explained, "limits": reference.limits, "denials": reference.denials}
 
 
 class Run(NamedTuple):
@@ -458,79 +425,53 @@ class Run(NamedTuple):
     def wanted(self):
         if self.command == "edit":
             return reference.replies(self.trace, self.script, self.profile)
-        answers = {"check": reference.check, "explain": reference.explained, "limits": reference.limits, "denials": reference.denials}
         position = [self.position] if self.command in ("explain", "limits") else []
-        return answers[self.command](self.trace, *position, self.profile, self.start or "")
+        return ANSWERS[self.command](self.trace, *position, self.profile, self.start or "")
 
     @functools.lru_cache(32)
-    def got(self, program):
+    def got(self):
         """What the program writes, and its exit status."""
-        for name, text in (("trace", self.trace), ("start", self.start), ("script", self.script)):
-            if text is not None:
-                with open(name, "wb") as file:
-                    file.write(text.encode("latin1"))
-        run = subprocess.run([program] + self.words(), stdin=subprocess.DEVNULL, stdout=subprocess.PIPE, timeout=60)
-        return run.stdout.decode("latin1"), run.returncode
+        harness.tried["runs beside the second reading"] += 1
+        for name in ("trace", "start", "script"):
+            if getattr(self, name) is not None:
+                harness.save(name, getattr(self, name))
+        answer = harness.capcheck(*self.words(), stdin=harness.DEVNULL, stderr=None)
+        return answer.out, answer.status
 
-    def faults(self, program, script):
+    def faults(self, script):
         """What is wrong with a script of limits that the program printed: replies of its `edit` other than ok, and new findings."""
-        lines, inserted = with_script(reference.load(self.trace)[0], script)
-        replies, _ = Run(self.trace, self.profile, "edit", script=script + "report\n").got(program)
-        *replies, new = replies.split("\n", len(inserted))
+        harness.tried["scripts of limits given back"] += 1
         check = self._replace(command="check", position=None)
-        old, _ = check.got(program)
+        trace, kept = reference.edited(reference.load(self.trace)[0], script, reference.found_in(check.got()[0]))
+        replies, _ = Run(self.trace, self.profile, "edit", script=script + "report\n").got()
+        *replies, new = replies.split("\n", len(kept.new()))
         if self.start is not None:  # which `edit` doesn't take
-            new, _ = check._replace(trace="".join(line + "\n" for line in lines)).got(program)
+            new, _ = check._replace(trace="".join(f"{line}\n" for line in trace)).got()
         refused = [reply for reply in replies if not re.fullmatch("ok [0-9]+", reply)]
-        return refused + [finding for _, finding in new_findings(old, new, inserted)]
+        return refused + kept.went_and_came(reference.found_in(new))[1]
 
-    def compared(self, program):
-        """What the reference answers, what the program does, and what is wrong with that as a script."""
-        text, status = self.got(program)
-        faults = self.faults(program, text) if self.command == "limits" and status == 0 else []
-        return self.wanted(), (text, status), faults
+    def fault(self):
+        """How the answers differ, or what is wrong with limits as a script; or nothing."""
+        (wanted, status), (got, ended) = self.wanted(), self.got()
+        if (wanted, status) != (got, ended):
+            return f"status {status} wanted, {ended} got\n{harness.difference(wanted, got)}"
+        faults = self.faults(got) if self.command == "limits" and status == 0 else []
+        return f"refused or new with these limits: {faults}" if faults else ""
 
-    def differs(self, program):
-        wanted, got, faults = self.compared(program)
-        return wanted != got or faults != []
-
-    def smaller(self, program):
+    def smaller(self):
         """The run with as few lines as still make the two answer differently."""
         run = self
         for name in ("script", "trace", "start"):
             at = 0
             while getattr(run, name) is not None and at < len(lines := getattr(run, name).splitlines(keepends=True)):
                 less = run._replace(**{name: "".join(lines[:at] + lines[at + 1 :])})
-                run, at = (less, at) if less.differs(program) else (run, at + 1)
+                run, at = (less, at) if less.fault() else (run, at + 1)
         return run
 
-    def shown(self, program):
-        (wanted, status), (got, ended), faults = self.compared(program)
-        texts = [("start", self.start), ("trace", self.trace), ("script", self.script)]
-        out = "".join(f"--- {name}:\n{text}\n" for name, text in texts if text is not None)
-        out += f"--- the reference, status {status}:\n{wanted}--- the program, status {ended}:\n{got}"
-        return out + (f"--- refused or new with these limits: {faults}\n" if faults else "")
-
-
-def with_script(lines, script):
-    """The lines with those that the commands of a script insert, and the positions of these afterwards."""
-    lines = [(line, False) for line in lines]
-    for command in script.splitlines():
-        if words := re.fullmatch("insert ([0-9]+) (.*)", command):
-            lines.insert(int(words[1]) - 1, (words[2], True))
-    return [line for line, _ in lines], {at for at, (_, is_new) in enumerate(lines, 1) if is_new}
-
-
-def new_findings(old, new, inserted):
-    """The findings of a report that an older one doesn't have, each with its position, where lines were inserted at these positions
-    of the trace; what is found in those is new."""
-    found, old = [], set(old.splitlines()[:-1])
-    for finding in new.splitlines()[:-1]:
-        at, rest = finding.split(" ", 1)
-        before = int(at) - sum(place < int(at) for place in inserted)
-        if int(at) in inserted or f"{before} {rest}" not in old:
-            found.append((int(at), finding))
-    return found
+    def shown(self):
+        texts = [(name, getattr(self, name)) for name in ("start", "trace", "script")]
+        given = "".join(f"--- {name}:\n{text}\n" for name, text in texts if text is not None and len(text) < MOST_SHOWN)
+        return f"capcheck {' '.join(self.words())}\n{given}--- {self.fault()}"
 
 
 def runs_of(maker):
@@ -548,7 +489,7 @@ def runs_of(maker):
         for text in (trace, used):
             begin = maker.positions.choice((None, start))
             yield Run(text, profile, "denials", begin)
-            for position in (None, maker.cut(text), maker.cut(text)):
+            for position in (None, maker.position(text, True), maker.position(text, True)):
                 yield Run(text, profile, "limits", begin, position=position)
 
 
@@ -566,88 +507,94 @@ def long_edits(maker):
     return Run("\n".join(lines) + "\n", maker.choice((1, 2)), "edit", script="\n".join([*commands, "changes"]) + "\n")
 
 
-def compare(program, seed, count):
+def cases(seed):
+    """Each random case with its name, as runs; and after them scripts of many edits of a long trace."""
     maker = Maker(seed)
-    with tempfile.TemporaryDirectory() as folder:
-        os.chdir(folder)
-        for turn in range(count):
-            for run in runs_of(maker):
-                if run.differs(program):
-                    run = run.smaller(program)
-                    print(f"seed {seed}, case {turn}: capcheck {' '.join(run.words())}\n{run.shown(program)}")
-                    sys.exit(1)
-        for turn in range(count // 100):
-            run = long_edits(maker)
-            if run.differs(program):
-                print(f"seed {seed}, edits {turn} of a long trace differ; its script:\n{run.script}")
-                sys.exit(1)
-        os.chdir("/")
-    print(f"{count} random traces, starts and scripts: as the reference has them")
+    for turn in range(CASES):
+        yield f"seed {seed}, case {turn}", list(runs_of(maker))
+    for turn in range(CASES // 100):
+        yield f"seed {seed}, edits {turn} of a long trace", [long_edits(maker)]
 
 
-class Counting(reference.Processes):
-    """Processes that count which rules of profile 2 their lines met, and the generations of the children in a trace."""
+class Share:
+    """A share of the random cases. Each class makes all of them, and tries its own."""
 
-    met = Counter()
+    is_long = True
 
-    def __init__(self, profile, start):
-        super().__init__(profile, start)
-        self.generations = {}
+    def test_cases(self):
+        for turn, (name, runs) in enumerate(cases(harness.seed())):
+            if turn % SHARES != self.share:
+                continue
+            harness.tried["random cases" if len(runs) > 1 else "scripts of many edits of a long trace"] += 1
+            for run in runs:
+                if run.fault():
+                    self.fail(f"{name}: {(run.smaller() if len(runs) > 1 else run).shown()}")
 
-    def follow(self, pid, name, given, answer):
-        self.met.update(self.rows(pid, name, given, answer))
-        if name in ("fork", "vfork", "pdfork") and not isinstance(answer, int) and answer[0] not in (0, pid):
-            self.bear(pid, answer[0])
-        super().follow(pid, name, given, answer)
 
-    def bear(self, pid, child):
-        """Counts a child."""
-        generation = self.generations.get(pid, 0) + 1
-        self.met["fork: a number that was used before" if child in self.generations else "fork: a new number"] += 1
-        self.met["fork: generation " + ("1 to 9" if generation < 10 else "10 to 99" if generation < 100 else "100 and later")] += 1
-        self.generations[child] = generation
+class FirstShare(Share, harness.Test):
+    share = 0
 
-    def rows(self, pid, name, given, answer):
-        """The rows of docs/RULES.md on flags, execs and closefrom that a line meets, each once for each kind of cell."""
-        process, how = self.of(pid), given[1] if name == "fcntl" else name
-        if isinstance(answer, int):
-            return [f"{name} that failed"] if name in EXECS else [f"{how} that failed"] if how == "F_SETFD" else []
-        if name in ("execve", "fexecve"):
-            return {"exec: " + kind(cell) for cell in list(process.cells.values()) + [process.others]}
-        if name == "closefrom":
-            place = {True: "closefrom: listed, at or above: ", False: "closefrom: listed, below: "}
-            listed = {place[at >= given[0]] + kind(cell) for at, cell in process.cells.items()}
-            return listed | {"closefrom: all others: " + kind(process.others), f"closefrom: {sides(given[0], process.end)}"}
-        if name in ("fork", "vfork", "pdfork"):
-            return {"fork: " + kind(cell) for cell in process.cells.values()} if answer[0] not in (0, pid) else []
-        if name in reference.MAKES_TWO + ["open", "socket"] or (name == "openat" and given[0] == "AT_FDCWD"):
-            return [f"{name}: {reference.flag_of_new(name, given)}"]
-        if name == "@start":
-            return [name]
-        return self.rows_of_cell(how, given, self.cell(pid, given[0])) if given and isinstance(given[0], int) else []
 
-    def rows_of_cell(self, how, given, cell):
-        """Those of a line that looks at the cell of its first descriptor."""
-        if how == "F_SETFD":
-            flags = ("with" if "FD_CLOEXEC" in given[2] else "without") + (", and others" if set(given[2]) - {"FD_CLOEXEC"} else "")
-            return [f"F_SETFD {flags}: {kind(cell)}"]
-        if how in ("dup2",) + reference.COPIES_TO:
-            return [f"{how} to {'itself' if given[0] == given[-1] else 'another'}: {kind(cell)}"]
-        if how == "openat":
-            return [f"openat below a descriptor: {reference.flag_of_new(how, given)}: {kind(cell)}"]
-        if how in ("dup", "cap_rights_limit", "cap_ioctls_limit", "cap_fcntls_limit") + reference.COPIES:
-            return [f"{how}: {kind(cell)}"]
-        return []
+class SecondShare(Share, harness.Test):
+    share = 1
+
+
+class ThirdShare(Share, harness.Test):
+    share = 2
+
+
+class FourthShare(Share, harness.Test):
+    share = 3
+
+
+# ---- what the random traces meet
 
 
 def kind(cell):
     return f"held, {cell.flag}" if isinstance(cell, reference.Held) else cell
 
 
-def sides(place, end):
-    return "the first" if end == reference.DESCRIPTORS else "again, lower" if place < end else "again, not lower"
+def has_child(pid, name, given, answer):
+    """Whether a line tells of a process of another number."""
+    return reference.is_fork((pid, name, given, answer)) and answer[0] != pid
 
 
+def rows_of(processes, pid, name, given, answer):
+    """The rows of docs/RULES.md on flags, execs and closefrom that a line meets, for each kind of cell."""
+    process, how = processes.of(pid), given[1] if name == "fcntl" else name
+    cell = kind(process.cell(given[0])) if given and isinstance(given[0], int) else ""
+    if isinstance(answer, int):
+        return [f"{how} that failed"] * (how in (*EXECS, "F_SETFD"))
+    if name == "closefrom":
+        end = "the first" if process.end == reference.DESCRIPTORS else "again, lower" if given[0] < process.end else "again, not lower"
+        listed = [f"closefrom: listed, {'at or above' if at >= given[0] else 'below'}: {kind(cell)}" for at, cell in process.cells.items()]
+        return listed + [f"closefrom: all others: {kind(process.others)}", f"closefrom: {end}"]
+    if name in EXECS or has_child(pid, name, given, answer):
+        return [f"{name}: {kind(cell)}" for cell in [*process.cells.values(), *[process.others] * (name in EXECS)]]
+    if how == "F_SETFD":
+        return [f"F_SETFD {'with' if 'FD_CLOEXEC' in given[2] else 'without'}{', and others' * bool(set(given[2]) - {'FD_CLOEXEC'})}: {cell}"]
+    if how in ("dup2",) + reference.COPIES_TO:
+        return [f"{how} to {'itself' if given[0] == given[-1] else 'another'}: {cell}"]
+    if name in reference.MAKES_TWO + ["open", "socket", "openat"]:
+        return [f"{name}: {reference.flag_of_new(name, given)}" + f" below a descriptor: {cell}" * bool(cell)]
+    return [f"{how}: {cell}" if cell else how] * (how in LOOKED_AT)
+
+
+def met_by_lines(lines, start):
+    """The rows that the lines of a trace meet in profile 2, and the generations of the children in it."""
+    processes, generations, met = reference.Processes(2, start), {}, []
+    for line in lines:
+        met += set(rows_of(processes, *line))
+        if has_child(*line):
+            child, generation = line[3][0], generations.get(line[0], 0) + 1
+            met.append("fork: a number that was used before" if child in generations else "fork: a new number")
+            met.append("fork: generation " + ("1 to 9" if generation < 10 else "10 to 99" if generation < 100 else "100 and later"))
+            generations[child] = generation
+        processes.follow(*line)
+    return met
+
+
+LOOKED_AT = ("@start", "dup", "cap_rights_limit", "cap_ioctls_limit", "cap_fcntls_limit") + reference.COPIES
 LIMITS = {
     "NONE": r"cap_rights_limit\(\d+,NONE\)",
     "rights": r"cap_rights_limit\(\d+,CAP_",
@@ -675,9 +622,7 @@ def met_by(run):
     if run.command == "denials":
         return met + [f"denied: {word}" for _, word in judged]
     if run.command == "check" and run.profile == 2:
-        processes = Counting(2, reference.load_start(run.start or "")[0])
-        for line in reference.load(run.trace)[0]:
-            processes.follow(*reference.read(line))
+        met += met_by_lines(map(reference.read, reference.load(run.trace)[0]), reference.load_start(run.start or "")[0])
         return met + ["another report than in profile 1"] * (answer != run._replace(profile=1).wanted()[0])
     return met
 
@@ -692,7 +637,7 @@ def met_by_limits(run, answer):
 
 def print_met(seed, count):
     """How often the random traces met each row in profile 2, with the reference alone."""
-    maker, met = Maker(seed), Counting.met
+    maker, met = Maker(seed), Counter()
     for _ in range(count):
         for run in runs_of(maker):
             met.update(met_by(run))
@@ -703,10 +648,10 @@ def print_met(seed, count):
 # ---- the laws of limits, tried on those of the reference
 
 
-def lacking(report):
-    """Each right that a finding of a report says is lacking, with the position and the descriptor."""
-    words = [line.split(" ") for line in report.splitlines()[:-1]]
-    return {(int(word[0]), word[4], right) for word in words if word[3] in ("missing", "expanded") for right in word[5].split("|")}
+def lacking(found):
+    """Each right that a finding says is lacking, with the position and the descriptor."""
+    words = [(at, text.split()) for at, text in found]
+    return {(at, word[4], right) for at, word in words if word[3] in ("missing", "expanded") for right in word[5].split("|")}
 
 
 class Laws:
@@ -716,42 +661,39 @@ class Laws:
 
     def __init__(self, run):
         self.run, self.script = run, run.wanted()[0]
-        self.lines, self.start = reference.load(run.trace)[0], reference.load_start(run.start or "")[0]
-        self.old = self.report(map(reference.read, self.lines))
+        self.trace, self.start = reference.load(run.trace)[0], reference.load_start(run.start or "")[0]
+        self.old = self.found(map(reference.read, self.trace))
 
-    def report(self, lines):
-        """That of lines that were read."""
-        return reference.report(reference.findings_of(lines, self.run.profile, self.start))
+    def found(self, lines):
+        """What is found in lines that were read."""
+        return reference.findings_of(lines, self.run.profile, self.start)
 
     def with_lines(self, script):
-        """The lines of the trace and of a script, read, and the positions of those of the script."""
-        lines, inserted = with_script(self.lines, script)
-        return [reference.read(line) for line in lines], inserted
+        """The lines of the trace and of a script, read, what is found in them, what of that is new, and where those of the script are."""
+        trace, kept = reference.edited(self.trace, script, self.old)
+        lines = list(map(reference.read, trace))
+        new = self.found(lines)
+        return lines, new, kept.went_and_came(new)[1], kept.new()
 
     def broken(self):
         """What doesn't hold."""
-        lines, inserted = self.with_lines(self.script)
-        new = self.report(lines)
+        lines, new, came, inserted = self.with_lines(self.script)
         self.tried["traces"] += 1
         self.tried.update(lines[at - 1][1] for at in inserted)
-        out = [f"not enough: {finding}" for _, finding in new_findings(self.old, new, inserted)]
-        for at in inserted:
-            if lines[at - 1][1] == "cap_rights_limit":
-                out += self.not_least(lines, inserted, at, lacking(new))
+        limits = [at for at in inserted if lines[at - 1][1] == "cap_rights_limit"]
+        out = [f"not enough: {finding}" for finding in came] + [it for at in limits for it in self.not_least(lines, inserted, at, lacking(new))]
         return out + self.not_in_the_way()
 
     def not_least(self, lines, inserted, at, lacked):
         """The rights of the limit at this position without which no line lacks more than `lacked`. Of the limits after makers, a later
         limit may be that line. A right is taken out of the set, since in a text another name may stand for it too."""
         pid, name, (place, rights), answer = lines[at - 1]
-        out = []
         for right in rights:
             self.tried["rights"] += 1
-            less = self.report(lines[: at - 1] + [(pid, name, [place, rights - {right}], answer)] + lines[at:])
+            less = self.found(lines[: at - 1] + [(pid, name, [place, rights - {right}], answer)] + lines[at:])
             where = {found for found, _, word in lacking(less) - lacked if word == "CAP_" + right}
             if not (where if self.run.position is None else where - inserted):
-                out.append(f"not least: {right} of descriptor {place} in line {at} of the trace with limits")
-        return out
+                yield f"not least: {right} of descriptor {place} in line {at} of the trace with limits"
 
     def not_in_the_way(self):
         """What is wrong with the line that the limits name as in the way of cap_enter."""
@@ -759,10 +701,10 @@ class Laws:
         if not said:
             return []
         self.tried[f"{'markers' if said[2][0] == '@' else 'calls'} in the way of cap_enter"] += 1
-        at, pid = self.run.position, reference.read(self.lines[self.run.position - 1])[0]
-        lines, inserted = self.with_lines(f"insert {at} {pid} cap_enter() RET 0")
-        found = [finding for _, finding in new_findings(self.old, self.report(lines), inserted) if finding.endswith(" forbidden")]
-        return [] if found and found[0] == f"{int(said[1]) + 1} {said[3]} {said[2]} forbidden" else [f"{said[0]}but forbidden is {found}"]
+        at, pid = self.run.position, reference.read(self.trace[self.run.position - 1])[0]
+        came = self.with_lines(f"insert {at} {pid} cap_enter() RET 0")[2]
+        found = [finding for finding in came if finding.endswith(" forbidden\n")]
+        return [] if found and found[0] == f"{int(said[1]) + 1} {said[3]} {said[2]} forbidden\n" else [f"{said[0]}but forbidden is {found}"]
 
 
 def try_laws(seed, count):
@@ -782,18 +724,8 @@ def try_laws(seed, count):
     print(f"all laws hold: {', '.join(f'{times} {what}' for what, times in sorted(Laws.tried.items()))}")
 
 
-def main():
-    words = sys.argv[1:]
-    if not 1 <= len(words) <= 3 or not all(word.isdigit() for word in words[1:]):
-        print(__doc__.strip(), file=sys.stderr)
-        sys.exit(2)
-    seed, count = [int(word) for word in words[1:]] + [1, 500][len(words) - 1 :]
-    if words[0] == "--met":
-        print_met(seed, count)
-    elif words[0] == "--laws":
-        try_laws(seed, count)
-    else:
-        compare(os.path.abspath(words[0]), seed, count)
-
-
-main()
+if __name__ == "__main__":
+    ways, words = {"--met": print_met, "--laws": try_laws}, sys.argv[1:]
+    if not 1 <= len(words) <= 3 or words[0] not in ways or not all(word.isdigit() for word in words[1:]):
+        sys.exit(__doc__.strip())
+    ways[words[0]](*[int(word) for word in words[1:]] + [1, CASES][len(words) - 1 :])

@@ -46,6 +46,8 @@ def is_static(program):
     """Whether a program was linked without a loader of libraries."""
     with open(program, "rb") as file:
         head = file.read(64)
+        if head[:4] != b"\x7fELF":
+            return False  # a script
         table, size, count = struct.unpack_from("<Q", head, 32)[0], *struct.unpack_from("<HH", head, 54)
         file.seek(table)
         kinds = [struct.unpack_from("<I", file.read(size))[0] for _ in range(count)]

@@ -1,5 +1,4 @@
-#!/usr/bin/env python3
-"""Whether the pages name what is there: tests/documents.py [PROGRAM]
+"""Whether the pages name what is there.
 
 - Each function, type, definition and clause in a column "Contract" of docs/PROOFS.md is declared in the crate of its section.
 - Each clause that a page says is one of a function or of a definition is there.
@@ -15,14 +14,11 @@
 import glob
 import os
 import re
-import subprocess
 import sys
 
-os.chdir(os.path.join(os.path.dirname(os.path.abspath(__file__)), ".."))
-PAGES = sorted([*glob.glob("*.md"), *glob.glob("docs/*.md"), *glob.glob("crates/*/*.md")])
-SOURCES = [*glob.glob("crates/*/src/**/*.rt", recursive=True), *glob.glob("crates/*/specs/**/*.antt", recursive=True)]
-PROOFS = glob.glob("crates/*/proofs/**/*.antt", recursive=True)
-SCRIPTS = [*glob.glob("contrib/*"), *glob.glob("tests/*"), *glob.glob("tools/*")]
+import harness
+from harness import text_of
+
 LONGEST = 200  # characters of a line of a table
 PATH = r"`((?:bench|contrib|crates|docs|examples|packaging|tests|tools|\.ci)/[^`\s]*|[A-Z]+\.md|LICENSE|\.gitmessage)`"
 STANDS_FOR = r"NAME|WHAT|CRATE"  # in a path, these stand for any name
@@ -31,13 +27,21 @@ NAMES = r"`\w+`(?:(?:, | and )`\w+`)*"  # one name in backticks, or several
 FUNCTIONS = r"`[\w:]+`(?:(?:, | and )`[\w:]+`)*"
 BEGIN = r"\s*(?:pub |pub\(crate\) )?"  # of a declaration
 OF_THE_PROVER = ("Lts", "Proof", "Tie")  # docs/GATE.md tells of these files of its work
-wrong = []
+SOURCES = ("crates/*/src/**/*.rt", "crates/*/specs/**/*.antt")
+PROOFS = ("crates/*/proofs/**/*.antt",)
+SCRIPTS = ("contrib/*", "tests/*", "tests/cases/*", "tools/*")
+PAGES = ("*.md", "docs/*.md", "crates/*/*.md")
+CODE = re.compile(rf"\n(?={BEGIN}(?:fn|record|abbrev|data|unfoldable) )")  # between declarations
 
 
-def text_of(path):
-    """What a file has."""
-    with open(path, encoding="utf-8") as file:
-        return file.read()
+def paths(patterns):
+    """The files that fit one of these patterns."""
+    return [path for pattern in patterns for path in glob.glob(pattern, recursive=True) if os.path.isfile(path)]
+
+
+def words_of(files):
+    """The words in files."""
+    return set().union(*(re.findall(r"\w+", text_of(path)) for path in files))
 
 
 def lines_of(page):
@@ -58,16 +62,12 @@ def names_in(cell):
 
 def declared_in(path):
     """The names that a file declares: functions, types, definitions, and clauses of contracts."""
-    text = text_of(path)
-    return {*re.findall(r"\b(?:fn|struct|enum|trait|record|ensures) (\w+)", text), *re.findall(r"\bpub (\w+)", text)}
+    return {*re.findall(r"\b(?:fn|struct|enum|trait|record|ensures) (\w+)", text := text_of(path)), *re.findall(r"\bpub (\w+)", text)}
 
 
 def declared_by_crates():
     """The names that each crate declares."""
-    declared = {}
-    for path in SOURCES:
-        declared.setdefault(path.split("/")[1], set()).update(declared_in(path))
-    return declared
+    return {crate: set().union(*map(declared_in, paths(it.replace("*", crate, 1) for it in SOURCES))) for crate in os.listdir("crates")}
 
 
 def is_declared(name, crate, declared):
@@ -79,31 +79,29 @@ def is_declared(name, crate, declared):
     return any(last in declared[of] for of in owners)
 
 
-def check_contracts(declared):
-    """That each contract of docs/PROOFS.md is declared: in a section of a crate by that crate."""
-    heads = {where: line[3:].split(":")[0] for where, line in lines_of("docs/PROOFS.md") if line.startswith("## ")}
+def wrong_contracts(declared):
+    """The contracts of docs/PROOFS.md that aren't declared: in a section of a crate by that crate."""
     rows, crate, column = dict(rows_of("docs/PROOFS.md")), None, None
     for where, line in lines_of("docs/PROOFS.md"):
-        if where in heads:
-            crate = heads[where] if heads[where] in declared else None
+        if line.startswith("## "):
+            crate = next(iter({line[3:].split(":")[0]} & {*declared}), None)
         cells = rows.get(where, [])
-        columns = [cells.index(head) for head in ("Contract", "Clause") if head in cells]
-        if columns:
+        if columns := [cells.index(head) for head in ("Contract", "Clause") if head in cells]:
             column = columns[0]
         elif cells:
-            names = [name for name in re.findall(r"`([\w:]+)`", cells[column]) if not is_declared(name, crate, declared)]
-            wrong.extend(f"{where}: {crate or 'no crate'} declares no {name}" for name in names)
+            for name in re.findall(r"`([\w:]+)`", cells[column]):
+                harness.tried["names of contracts"] += 1
+                if not is_declared(name, crate, declared):
+                    yield f"{where}: {crate or 'no crate'} declares no {name}"
 
 
 def clauses_of_all():
     """For each function the names of its clauses, and for each record those of its fields."""
     clauses = {}
-    for path in SOURCES:
-        for part in re.split(rf"\n(?={BEGIN}(?:fn|record|abbrev|data|unfoldable) )", text_of(path)):
-            head = re.match(rf"{BEGIN}(fn|record) (?:pub )?(\w+)", part)
-            if head:
-                found = re.findall(r"\bensures (\w+) \{" if head[1] == "fn" else r"^  pub (\w+) :", part, re.M)
-                clauses.setdefault(head[2], set()).update(found)
+    for part in (part for path in paths(SOURCES) for part in CODE.split(text_of(path))):
+        if head := re.match(rf"{BEGIN}(fn|record) (?:pub )?(\w+)", part):
+            found = re.findall(r"\bensures (\w+) \{" if head[1] == "fn" else r"^  pub (\w+) :", part, re.M)
+            clauses.setdefault(head[2], set()).update(found)
     return clauses
 
 
@@ -113,131 +111,123 @@ def clauses_named(line):
     pairs += [(clause, of) for of, clause in re.findall(r"(`[\w:]+`) \(clause (`\w+`)\)", line)]
     pairs += re.findall(rf"({NAMES}) in (`[A-Z]\w+`)", line)
     pairs += [(f"`{clause}`", f"`{of}`") for of, clause in re.findall(r"`([A-Z]\w+)\.(\w+)`", line)]
-    each = [(re.findall(r"`(\w+)`", clauses), re.findall(r"(\w+)`", owners)) for clauses, owners in pairs]
-    return [(clause, of) for clauses, owners in each for clause in clauses for of in owners]
+    return [(it, of) for clauses, owners in pairs for it in re.findall(r"`(\w+)`", clauses) for of in re.findall(r"(\w+)`", owners)]
 
 
-def check_file(where, path, names):
-    """That a source is there, and declares these."""
+def wrong_file(where, path, names):
+    """That a source isn't there, or doesn't declare these."""
+    harness.tried["files of tables"] += 1
     if not os.path.isfile(path):
-        wrong.append(f"{where}: there is no {path}")
-    else:
-        wrong.extend(f"{where}: {path} declares no {name}" for name in set(names) - declared_in(path))
+        return [f"{where}: there is no {path}"]
+    return [f"{where}: {path} declares no {name}" for name in set(names) - declared_in(path)]
 
 
 def taken_by(path):
     """The files of specs/ of the repository's crates that one of them takes definitions of, each with its crate."""
     taken = set()
     for crate, names in re.findall(r"\buse Rattle\.(cap\w+)\.specs\.(\{[^}]*\}|\w+)", re.sub(r"--.*", "", text_of(path))):
-        taken.update((crate, name) for name in re.findall(r"(?:^|[{,])\s*(\w+)", names))
-    return {(crate, name) for crate, name in taken if name != "declared"}
+        taken.update((crate, name) for name in re.findall(r"(?:^|[{,])\s*(\w+)", names) if name != "declared")
+    return taken
 
 
-def check_beliefs(listed):
-    """That these files of specs/ rest on nothing else, and those beside a folder Code not on it."""
+def wrong_beliefs(listed):
+    """The files of specs/ that rest on something else than these, and those beside a folder Code that rest on it."""
     for path in glob.glob("crates/*/specs/*.antt"):
-        crate, name = path.split("/")[1], os.path.basename(path).removesuffix(".antt")
+        crate, name = path.split("/")[1], os.path.basename(path)[: -len(".antt")]
         has_code = os.path.isdir(f"crates/{crate}/specs/Code")
+        harness.tried["files of definitions"] += 1
         for other in sorted(taken_by(path)):
             if has_code and other[1] == "Code" or (crate, name) in listed and other not in listed:
-                wrong.append(f"{path} rests on {'/'.join(other)}, which docs/ARCHITECTURE.md doesn't list as to be believed")
+                yield f"{path} rests on {'/'.join(other)}, which docs/ARCHITECTURE.md doesn't list as to be believed"
 
 
-def check_files():
-    """That the files of docs/ARCHITECTURE.md are there, and declare what is beside them. An empty cell is the crate above."""
+def wrong_files():
+    """What docs/ARCHITECTURE.md says of files that aren't there, or don't declare it. An empty cell is the crate above."""
     crate, listed = None, set()
     for where, cells in rows_of("docs/ARCHITECTURE.md"):
         if re.fullmatch(r"`\w+/src/[\w/]+\.rt`", cells[0]):
-            check_file(where, f"crates/{cells[0][1:-1]}", names_in(cells[1]))
+            yield from wrong_file(where, f"crates/{cells[0][1:-1]}", names_in(cells[1]))
         elif re.fullmatch(r"`(cap_\w+|capcheck)`|", cells[0]):
             crate = cells[0].strip("`") or crate
             for name in names_in(cells[1]):
-                check_file(where, f"crates/{crate}/specs/{name}.antt", [])
+                yield from wrong_file(where, f"crates/{crate}/specs/{name}.antt", [])
                 listed.add((crate, name))
-    check_beliefs(listed)
+    yield from wrong_beliefs(listed)
 
 
-def check_lists():
-    """That what CONTRIBUTING.md names is in some crate or script."""
-    words = set(os.listdir("crates"))
-    for path in filter(os.path.isfile, [*SOURCES, *PROOFS, *SCRIPTS]):
-        words.update(re.findall(r"\w+", text_of(path)))
+def wrong_lists():
+    """What CONTRIBUTING.md names that no crate and no script has."""
+    words = words_of(paths(SOURCES + PROOFS + SCRIPTS)).union(os.listdir("crates"))
     for where, line in lines_of("CONTRIBUTING.md"):
         for name in re.findall(r"`([\w/.:]+)`", line):
-            if re.match(r"(src|specs|proofs)/", name):
-                is_there = glob.glob(f"crates/*/{name}")
-            else:
-                is_there = not re.fullmatch(r"[\w:]*(_|[a-z][A-Z])[\w:]*", name) or set(re.findall(r"\w+", name)) <= words
-            if not is_there and not re.search(STANDS_FOR, name):
-                wrong.append(f"{where}: nothing has {name}")
+            harness.tried["names in pages"] += 1
+            is_name = re.fullmatch(r"[\w:]*(_|[a-z][A-Z])[\w:]*", name) and not set(re.findall(r"\w+", name)) <= words
+            is_path = re.match(r"(src|specs|proofs)/", name)
+            if (not glob.glob(f"crates/*/{name}") if is_path else is_name) and not re.search(STANDS_FOR, name):
+                yield f"{where}: nothing has {name}"
 
 
 def words_of_code():
     """The names in the code of the crates, without comments, and of its files and folders; and the words of scripts."""
-    words = {os.path.splitext(name)[0] for path in SOURCES for name in path.split("/")}
-    for path in [*SOURCES, *PROOFS]:
-        words.update(re.findall(r"\w+", re.sub(r"//.*" if path.endswith(".rt") else r"--.*", "", text_of(path))))
-    return words, set().union(*(re.findall(r"\w+", text_of(path)) for path in filter(os.path.isfile, SCRIPTS)))
+    words = {os.path.splitext(name)[0] for path in paths(SOURCES) for name in path.split("/")}
+    codes = (re.sub(r"//.*" if path.endswith(".rt") else r"--.*", "", text_of(path)) for path in paths(SOURCES + PROOFS))
+    return words.union(*(re.findall(r"\w+", code) for code in codes)), words_of(paths(SCRIPTS))
 
 
 def lines_of_words(page):
     """The lines of a page that are no example, each with where it is."""
-    is_example, lines = False, []
+    is_example = False
     for where, line in lines_of(page):
         is_example ^= line.startswith("```")
         if not is_example and not line.startswith("    "):
-            lines.append((where, line))
-    return lines
+            yield where, line
 
 
-def check_names(page, words, clauses):
-    """That the names of a page are in the code, system calls at least in some script, and that its clauses are there."""
-    code, scripts = words
+def wrong_names(page, code, words, clauses):
+    """The names of a page that aren't in the code, system calls in no script either, and its clauses that aren't there."""
     for where, line in lines_of_words(page):
         is_wrong_body = page == "docs/TESTING.md" and line.startswith("- `")
         parts = [part for name in re.findall(r"`([\w:.]+)`", line)[is_wrong_body:] for part in re.split(r"::|\.", name)]
-        for name in (part for part in parts if re.fullmatch(NAME, part)):
-            if name not in code and not (name.islower() and name in scripts) and name not in OF_THE_PROVER:
-                wrong.append(f"{where}: nothing has {name}")
-        for name in re.findall(r"`(?!crates/)([\w/]+\.(?:rt|antt))`", line):
-            if not glob.glob(f"crates/**/{name}", recursive=True):
-                wrong.append(f"{where}: there is no {name}")
-        named = [(it, of) for it, of in clauses_named(line) if of in clauses and it not in clauses[of]]
-        wrong.extend(f"{where}: {of} has no clause {it}" for it, of in named)
+        parts = [part for part in parts if re.fullmatch(NAME, part)]
+        files = re.findall(r"`(?!crates/)([\w/]+\.(?:rt|antt))`", line)
+        named = [(it, of) for it, of in clauses_named(line) if of in clauses]
+        harness.tried["names in pages"] += len(parts) + len(files) + len(named)
+        lost = [it for it in parts if it not in code and not (it.islower() and it in words) and it not in OF_THE_PROVER]
+        yield from (f"{where}: nothing has {name}" for name in lost)
+        yield from (f"{where}: there is no {name}" for name in files if not glob.glob(f"crates/**/{name}", recursive=True))
+        yield from (f"{where}: {of} has no clause {it}" for it, of in named if it not in clauses[of])
 
 
-def check_page(page, everything):
-    """That the paths of a page are there, its methods among these, and that no line of its tables is long."""
+def wrong_paths(page, everything):
+    """The paths of a page that aren't there, its methods that aren't among these, and the long lines of its tables."""
     for where, line in lines_of(page):
-        for method in re.findall(r"`([A-Z]\w+::[a-z]\w*)`", line):
-            if method.split("::")[1] not in everything:
-                wrong.append(f"{where}: nothing declares {method}")
-        for path in re.findall(PATH, line):
-            if not os.path.exists(path) and not re.search(STANDS_FOR, path):
-                wrong.append(f"{where}: there is no {path}")
+        methods, paths = re.findall(r"`[A-Z]\w+::([a-z]\w*)`", line), re.findall(PATH, line)
+        harness.tried["paths in pages"] += len(methods) + len(paths)
+        yield from (f"{where}: nothing declares {it}" for it in methods if it not in everything)
+        yield from (f"{where}: there is no {it}" for it in paths if not os.path.exists(it) and not re.search(STANDS_FOR, it))
         if line.startswith("|") and len(line) > LONGEST:
-            wrong.append(f"{where}: a line of a table with {len(line)} characters")
+            yield f"{where}: a line of a table with {len(line)} characters"
 
 
-def check_rights():
-    """That docs/RIGHTS.md is up to date."""
-    made = subprocess.run([sys.executable, "tools/rights_page.py", "--print"], stdout=subprocess.PIPE, encoding="utf-8")
-    if made.returncode or made.stdout != text_of("docs/RIGHTS.md"):
-        wrong.append("docs/RIGHTS.md isn't what tools/rights_page.py makes")
+class Documents(harness.Test):
+    of_program = False
 
+    def setUp(self):
+        os.chdir(harness.ROOT)
+        self.pages, self.declared = sorted(paths(PAGES)), declared_by_crates()
 
-def main():
-    declared, words, clauses = declared_by_crates(), words_of_code(), clauses_of_all()
-    check_contracts(declared)
-    check_files()
-    check_lists()
-    for page in PAGES:
-        check_page(page, set().union(*declared.values()))
-        if page not in ("CHANGELOG.md", "CONTRIBUTING.md"):
-            check_names(page, words, clauses)
-    check_rights()
-    print(*wrong, f"{len(PAGES)} pages: {f'{len(wrong)} things are wrong' if wrong else 'all that they name is there'}", sep="\n")
-    sys.exit(1 if wrong else 0)
+    def test_tables(self):
+        for what, wrong in (("contracts", wrong_contracts(self.declared)), ("files", wrong_files()), ("lists", wrong_lists())):
+            self.same(what, (), tuple(wrong), "tables of pages")
 
+    def test_pages(self):
+        everything, words, clauses = set().union(*self.declared.values()), words_of_code(), clauses_of_all()
+        for page in self.pages:
+            self.same(page, (), tuple(wrong_paths(page, everything)), "pages")
+            if page not in ("CHANGELOG.md", "CONTRIBUTING.md"):
+                self.same(page, (), tuple(wrong_names(page, *words, clauses)), "pages of code")
 
-main()
+    def test_rights(self):
+        """docs/RIGHTS.md is up to date."""
+        made = harness.run([sys.executable, "tools/rights_page.py", "--print"], encoding="utf-8")
+        self.same("docs/RIGHTS.md, which tools/rights_page.py makes", (0, made.out), (made.status, text_of("docs/RIGHTS.md")))

@@ -1,9 +1,8 @@
-#!/usr/bin/env python3
-"""What the program says of devices that fail: tests/failing_devices.py PROGRAM [--freebsd]
+"""What the program says of devices that fail.
 
 Each row has a device, and the error of the call on it that fails. By `-v` the program says in words what kind of error
-that is. Where it has no kind for an error it says what the system calls it, with its number. With --freebsd the program
-is one for FreeBSD under tests/freebsd/translate.c: names and numbers are those of tests/freebsd/errors.h.
+that is. Where it has no kind for an error it says what the system calls it, with its number. Where SYSTEM is FreeBSD, in the
+environment, the program is one for it under tests/freebsd/translate.c: names and numbers are those of tests/freebsd/errors.h.
 
 The texts of kinds are those that Rust has for them.
 """
@@ -18,11 +17,9 @@ import shutil
 import signal
 import socket
 import struct
-import subprocess
-import sys
-import tempfile
 
-HERE = os.path.dirname(os.path.abspath(__file__))
+import harness
+
 KINDS = {
     "ENOENT": "no such file or directory", "EISDIR": "is a directory", "ENOTDIR": "not a directory",
     "EACCES": "permission denied", "EPERM": "permission denied", "EPIPE": "broken pipe",
@@ -35,6 +32,8 @@ KINDS = {
 BELOW_0 = ("ENOTSOCK", "EDESTADDRREQ", "EMSGSIZE", "ENOTRECOVERABLE")
 NOBODY = 65534
 IN, OUT = "standard input", "standard output"
+
+
 opened = []  # what a row keeps open
 
 
@@ -44,14 +43,8 @@ def kept(it):
     return it
 
 
-def close_all():
-    while opened:
-        it = opened.pop()
-        os.close(it) if isinstance(it, int) else it.close()
-
-
 def file(path, flags=os.O_RDONLY):
-    return lambda: kept(os.open(path, flags))
+    return kept(os.open(path, flags))
 
 
 def pipe(end, *, is_full=False, is_broken=False):
@@ -102,20 +95,9 @@ def sealed():
     return it
 
 
-def most_open(count):
-    return lambda: resource.setrlimit(resource.RLIMIT_NOFILE, (count, count))
-
-
-def longest_file(count):
-    def prepare():
-        signal.signal(signal.SIGXFSZ, signal.SIG_IGN)
-        resource.setrlimit(resource.RLIMIT_FSIZE, (count, count))
-
-    return prepare
-
-
-def without(device):
-    return lambda: os.close(device)
+def limited(what, most):
+    signal.signal(signal.SIGXFSZ, signal.SIG_IGN)
+    resource.setrlimit(what, (most, most))
 
 
 def as_nobody():
@@ -137,21 +119,21 @@ ROWS = (
     ("no terminal", ["/dev/tty"], {"before": os.setsid}, "/dev/tty", "ENXIO"),
     ("memory at 0", ["/proc/self/mem"], {}, "/proc/self/mem", "EIO"),
     ("a file of someone else", ["secret"], {"before": as_nobody}, "secret", "EACCES"),
-    ("too many files", ["trace", "trace"], {"command": "edit", "before": most_open(4)}, "trace", "EMFILE"),
-    ("no input", [], {"before": without(0)}, IN, "EBADF"),
-    ("no output", ["trace"], {"before": without(1)}, OUT, "EBADF"),
-    ("input that is there to write", [], {"stdin": file(os.devnull, os.O_WRONLY)}, IN, "EBADF"),
-    ("output that is there to read", ["trace"], {"stdout": file(os.devnull)}, OUT, "EBADF"),
-    ("a folder as input", [], {"stdin": file("/")}, IN, "EISDIR"),
+    ("too many files", ["trace", "trace"], {"command": "edit", "before": lambda: limited(resource.RLIMIT_NOFILE, 4)}, "trace", "EMFILE"),
+    ("no input", [], {"before": lambda: os.close(0)}, IN, "EBADF"),
+    ("no output", ["trace"], {"before": lambda: os.close(1)}, OUT, "EBADF"),
+    ("input that is there to write", [], {"stdin": lambda: file(os.devnull, os.O_WRONLY)}, IN, "EBADF"),
+    ("output that is there to read", ["trace"], {"stdout": lambda: file(os.devnull)}, OUT, "EBADF"),
+    ("a folder as input", [], {"stdin": lambda: file("/")}, IN, "EISDIR"),
     ("a device that can't be read", [], {"stdin": lambda: kept(select.epoll())}, IN, "EINVAL"),
     ("an empty pipe", [], {"stdin": lambda: pipe(0)}, IN, "EAGAIN"),
     ("a reset connection", [], {"stdin": reset}, IN, "ECONNRESET"),
     ("no connection", [], {"stdin": lambda: kept(socket.socket())}, IN, "ENOTCONN"),
     ("nobody who sends", [], {"stdin": lambda: datagrams(to="refuses")}, IN, "ECONNREFUSED"),
-    ("a full disk", ["trace"], {"stdout": file("/dev/full", os.O_WRONLY)}, OUT, "ENOSPC"),
+    ("a full disk", ["trace"], {"stdout": lambda: file("/dev/full", os.O_WRONLY)}, OUT, "ENOSPC"),
     ("a broken pipe", ["trace"], {"stdout": lambda: pipe(1, is_broken=True)}, OUT, "EPIPE"),
     ("a full pipe", ["trace"], {"stdout": lambda: pipe(1, is_full=True)}, OUT, "EAGAIN"),
-    ("a full file", ["trace"], {"stdout": file("out", os.O_WRONLY), "before": longest_file(10)}, OUT, "EFBIG"),
+    ("a full file", ["trace"], {"stdout": lambda: file("out", os.O_WRONLY), "before": lambda: limited(resource.RLIMIT_FSIZE, 10)}, OUT, "EFBIG"),
     ("a sealed file", ["trace"], {"stdout": sealed}, OUT, "EPERM"),
     ("a connection that was reset", ["trace"], {"stdout": reset}, OUT, "ECONNRESET"),
     ("nobody who listens", ["trace"], {"stdout": lambda: datagrams(to="refuses")}, OUT, "ECONNREFUSED"),
@@ -162,8 +144,7 @@ ROWS = (
 
 def of_freebsd():
     """The number and the text of each error of FreeBSD."""
-    with open(os.path.join(HERE, "freebsd/errors.h"), encoding="utf-8") as table:
-        found = re.findall(r'^(?:BOTH|OWN)\((\w+), (\d+), "(.*)"\)$', table.read(), re.M)
+    found = re.findall(r'^(?:BOTH|OWN)\((\w+), (\d+), "(.*)"\)$', harness.text_of(f"{harness.HERE}/freebsd/errors.h"), re.M)
     return {name: (-int(number) if name in BELOW_0 else int(number), text) for name, number, text in found}
 
 
@@ -175,69 +156,44 @@ def words_for(name, known):
     return rf"{re.escape(text) if text else '[A-Z][ -~]*'} \(os error {number}\)"
 
 
-def ran(program, words, how):
-    """Status, standard output and standard error of the program with such a device."""
-    stdin, stdout = how.get("stdin", lambda: subprocess.DEVNULL)(), how.get("stdout", lambda: subprocess.PIPE)()
-    words, how = [program, how.get("command", "check"), "-v", *words], {"preexec_fn": how.get("before"), "timeout": 60}
-    done = subprocess.run(words, stdin=stdin, stdout=stdout, stderr=subprocess.PIPE, **how)
-    return done.returncode, (done.stdout or b"").decode(), done.stderr.decode()
+def answer(program, words, how):
+    """The answer of the program with such a device."""
+    try:
+        stdin, stdout = how.get("stdin", lambda: harness.DEVNULL)(), how.get("stdout")
+        devices = {"stdin": stdin, **({"stdout": stdout()} if stdout else {})}
+        return harness.run([program, how.get("command", "check"), "-v", *words], preexec_fn=how.get("before"), timeout=60, **devices)
+    finally:
+        while opened:
+            it = opened.pop()
+            os.close(it) if isinstance(it, int) else it.close()
 
 
-def broken_rows(program, known):
-    """The names of the rows in which the program says something else, and what it says."""
+def answers(program, known):
+    """Of each row its name, the status and the patterns of output and of what is said, and the answer."""
     for name, words, how, where, wanted in ROWS:
-        try:
-            got = ran(program, words, how)
-        finally:
-            close_all()
-        if isinstance(wanted, int):
-            is_right = got == (wanted, "2 100 write closed 7\nfindings 1\n", "")
-        else:
-            code = "E12" if where == OUT else "E11"
-            says = rf"capcheck: {re.escape(where)}: {words_for(wanted, known)}\ncapcheck: {code}\n"
-            is_right = got[:2] == (3, "") and re.fullmatch(says, got[2]) is not None
-        if not is_right:
-            yield name, got
+        ends = (1, "2 100 write closed 7\nfindings 1\n", "")
+        if isinstance(wanted, str):
+            ends = (3, "", rf"capcheck: {re.escape(where)}: {words_for(wanted, known)}\ncapcheck: {'E12' if where == OUT else 'E11'}\n")
+        got = answer(program, words, how)
+        is_right = got[:2] == ends[:2] and re.fullmatch(ends[2], got.said)
+        yield name, ends, got, bool(is_right)
 
 
-def prepare():
-    """The files of the rows, in this folder, which anybody may enter."""
+def prepare(program):
+    """The files of the rows, in this folder, which anybody may enter; and the program, where another user may run it."""
     os.chmod(".", 0o755)
-    for name, text in (("trace", "100 @start(0)\n100 write(7) RET 1\n"), ("out", ""), ("secret", "")):
-        with open(name, "w", encoding="utf-8") as out:
-            out.write(text)
-    with open("long", "w", encoding="utf-8") as out:
-        out.write("100 @start(0)\n" + "100 write(7) RET 1\n" * 5000)
+    for name, count in (("trace", 1), ("out", 0), ("secret", 0), ("long", 5000)):
+        harness.save(name, ("100 @start(0)\n" + "100 write(7) RET 1\n" * count) * bool(count))
     os.symlink("trace", "link")
     os.symlink("loop", "loop")
     os.chmod("secret", 0)
     with socket.socket(socket.AF_UNIX) as it:
         it.bind("socket")
+    return shutil.copy(program, "./program")
 
 
-def broken(program, known):
-    """The rows of this program that are broken."""
-    with tempfile.TemporaryDirectory() as folder:
-        os.chdir(folder)
-        prepare()
-        shutil.copy(program, "program")  # to where another user may run it
-        try:
-            return dict(broken_rows("./program", known))
-        finally:
-            os.chdir("/")
-
-
-def main():
-    words = sys.argv[1:]
-    if not words or words[1:] not in ([], ["--freebsd"]):
-        print(__doc__.strip(), file=sys.stderr)
-        sys.exit(2)
-    wrong = broken(os.path.abspath(words[0]), of_freebsd() if words[1:] else None)
-    for name, got in wrong.items():
-        print(f"{name}: {got}")
-    print(f"{len(ROWS)} devices: {f'{len(wrong)} wrong' if wrong else 'the program says what is wrong with each'}")
-    sys.exit(1 if wrong else 0)
-
-
-if __name__ == "__main__":
-    main()
+class Devices(harness.Test):
+    def test_devices(self):
+        known = of_freebsd() if os.environ.get("SYSTEM") == "FreeBSD" else None
+        for name, wanted, got, is_right in answers(prepare(harness.program()), known):
+            self.same(f"{name}, by the pattern of what is said", wanted, wanted if is_right else got, "devices")

@@ -1,10 +1,10 @@
 #!/usr/bin/env python3
-"""The gate: tests/gate.py SCRIPT..
+"""The gate: tests/gate.py tests/run.py tests/refusals.py
 
-Runs `rt ci`, and beside it, as soon as that has built the program, each script with the program as its argument: so the program
-is proved and built once. `tests/refusals.py` is handed the tests of cap_refusal_tests in its place. What the scripts print comes
-before the last line of `rt ci`, which stays the last; scripts that failed count as failed there. The status is 0 where `rt ci`
-and all scripts passed. Above it is what `rt ci` took by the clock, and in seconds of processors.
+Runs `rt ci`, and beside it each script, as soon as that has built what the script is handed: the program, so that it is proved and
+built once, or of `tests/refusals.py` the tests of cap_refusal_tests. What the scripts print comes before the last line of `rt ci`,
+which stays the last; scripts that failed count as failed there. The status is 0 where `rt ci` and all scripts passed. Above it is
+what `rt ci` took by the clock, and in seconds of processors.
 
 `rt ci` takes as many steps side by side as it believes that memory holds, by an estimate of twice what they take here. So
 where three processors or more each have the memory that a step takes at most, it is handed their number as RT_JOBS, unless
@@ -38,11 +38,6 @@ QUOTAS = [  # the processor time of a control group in a period, and the period
 ]
 
 
-def needed_by(script):
-    """What a script is run with."""
-    return REFUSALS if os.path.basename(script) == "refusals.py" else PROGRAM
-
-
 def is_built(binary):
     """Whether it is there and runs."""
     nothing = subprocess.DEVNULL
@@ -53,36 +48,17 @@ def is_built(binary):
     return ran.returncode == 0
 
 
-class Scripts(threading.Thread):
-    """Runs the scripts, each once what it needs is built, with a copy of that."""
-
-    def __init__(self, scripts):
-        super().__init__(daemon=True)
-        self.scripts, self.said, self.failed, self.no_more = scripts, [], list(scripts), threading.Event()
-
-    def run(self):
-        for script in self.scripts:
-            self.said.append(f"== {script}\n")
-            binary = needed_by(script)
-            while not is_built(binary):
-                if self.no_more.wait(PAUSE) and not is_built(binary):
-                    break
-            else:
-                self.no_more.wait(PAUSE)
-                self.run_with(script, binary)
-                continue
-            self.said.append(f"{script} was not run: {os.path.relpath(binary, ROOT)} was not built\n")
-
-    def run_with(self, script, binary):
-        """Runs a script, and keeps what it says."""
-        with tempfile.TemporaryDirectory() as folder:
-            how = {"stdin": subprocess.DEVNULL, "stdout": subprocess.PIPE, "stderr": subprocess.STDOUT, "errors": "replace"}
-            ran = subprocess.run([os.path.join(ROOT, script), shutil.copy(binary, folder)], **how)
-        self.said.append(ran.stdout)
-        if ran.returncode == 0:
-            self.failed.remove(script)
-        else:
-            self.said.append(f"{script} FAILED with status {ran.returncode}\n")
+def said_by(script, has_ended):
+    """Runs a script with a copy of what it needs, once that is built: what it says, and whether it passed."""
+    binary = REFUSALS if os.path.basename(script) == "refusals.py" else PROGRAM
+    while not is_built(binary):
+        if has_ended.wait(PAUSE) and not is_built(binary):
+            return f"{script} was not run: {os.path.relpath(binary, ROOT)} was not built\n", False
+    has_ended.wait(PAUSE)
+    with tempfile.TemporaryDirectory() as folder:
+        how = {"stdin": subprocess.DEVNULL, "stdout": subprocess.PIPE, "stderr": subprocess.STDOUT, "errors": "replace"}
+        ran = subprocess.run([os.path.join(ROOT, script), shutil.copy(binary, folder)], **how)
+    return ran.stdout + (f"{script} FAILED with status {ran.returncode}\n" if ran.returncode else ""), ran.returncode == 0
 
 
 def number_in(path, pattern=r"(\d+)"):
@@ -124,7 +100,7 @@ def side_by_side():
 def counted(line, failed):
     """The last line, with the scripts that failed."""
     found = re.fullmatch(r"(\d+) passed, (\d+) failed\n?", line)
-    return f"{found[1]} passed, {int(found[2]) + len(failed)} failed\n" if found and failed else line
+    return f"{found[1]} passed, {int(found[2]) + failed} failed\n" if found and failed else line
 
 
 def took(began, used):
@@ -139,12 +115,11 @@ def main():
         sys.exit(f"tests/gate.py needs {rt}, the command of the Rattle kit, which isn't on the path.")
     compiler.compiler()  # ends here where there is none, and not after the proofs
     os.chdir(ROOT)
-    for binary in LOOKS:
-        if os.path.lexists(binary):
-            os.remove(binary)
-    began = time.monotonic()
+    for binary in filter(os.path.lexists, LOOKS):
+        os.remove(binary)
+    began, has_ended, said = time.monotonic(), threading.Event(), []
     ci = subprocess.Popen([rt, "ci"], stdout=subprocess.PIPE, errors="replace", env=side_by_side())
-    scripts = Scripts(sys.argv[1:])
+    scripts = threading.Thread(target=lambda: said.extend(said_by(script, has_ended) for script in sys.argv[1:]), daemon=True)
     scripts.start()
     last = ""
     for line in ci.stdout:
@@ -152,11 +127,14 @@ def main():
         last = line
     _, status, used = os.wait4(ci.pid, 0)
     spent = took(began, used)
-    scripts.no_more.set()
+    has_ended.set()
     scripts.join()
-    print(*scripts.said, spent, sep="", end="", flush=True)
-    print(counted(last, scripts.failed), end="", flush=True)
-    sys.exit(1 if status or scripts.failed else 0)
+    for script, (text, _) in zip(sys.argv[1:], said):
+        print(f"== {script}\n{text}", end="")
+    failed = len(sys.argv[1:]) - sum(passed for _, passed in said)
+    print(spent, counted(last, failed), sep="", end="", flush=True)
+    sys.exit(1 if status or failed else 0)
 
 
-main()
+if __name__ == "__main__":
+    main()

@@ -1,46 +1,42 @@
-#!/usr/bin/env python3
-"""Programs under a small kernel, and the limits that `capcheck` prints for them: tests/kernel.py PROGRAM
+"""Programs under a small kernel, and the limits that `capcheck` prints for them.
 
-The kernel refuses what tests/kernel.tsv says that a kernel of FreeBSD 12, 13, 14 or 15 refuses. What a program did
-there is printed as truss would print it, and contrib/truss2trace.py makes a trace of that with `--kernel`.
+The kernel refuses what tests/kernel.tsv says that a kernel of FreeBSD 12, 13, 14 or 15 refuses. What a program did there is printed as
+truss would print it, and contrib/truss2trace.py makes a trace of that with `--kernel`.
 
-- Two thousand random programs do all that a recording may show or hide. The kernel answers rightly, so the program may
-  find nothing in their traces.
-- For other random programs, for eight written ones and for each call of the table by itself: the limits that the
-  program prints for a line of the trace, and the cap_enter where it prints one, are put into the program at the place
-  of that line. The program runs again under the kernel. No call that succeeded may be refused then, and all must answer
-  what they did. With `--failed` that holds for what failed as well. From traces that `--plain` makes some calls must be
-  refused, or these runs show nothing.
+- Two thousand random programs do all that a recording may show or hide. The kernel answers rightly, so the program may find nothing in
+  their traces.
+- For other random programs, for the written ones (tests/programs.txt) and for each call of the table by itself: the limits that the
+  program prints for a line of the trace, and the cap_enter where it prints one, are put into the program at the place of that line. The
+  program runs again under the kernel. No call that succeeded may be refused then, and all must answer what they did. With `--failed`
+  that holds for what failed as well. From traces that `--plain` makes some calls must be refused, or these runs show nothing.
 
-Not in these other programs is what no recording tells: threads, asynchronous I/O, links, nodes of sysctl, lists of
-ioctl and fcntl commands, lines that can't be read, and calls for which the table is less than 0.8 sure.
-CONVERTER=PATH and TABLE=PATH in the environment name another converter and another table.
+Not in these other programs is what no recording tells: threads, asynchronous I/O, links, nodes of sysctl, lists of ioctl and fcntl
+commands, lines that can't be read, and calls for which the table is less than 0.8 sure. Of limits from before an exec the trace doesn't
+tell enough either where after it close_range sets flags, or before it a path left its directory.
 """
 
+import ast
 import collections
-import importlib.machinery
-import importlib.util
+import functools
+import importlib
 import io
 import itertools
 import os
 import posixpath
-import random
 import re
-import subprocess
 import sys
-import tempfile
 from typing import Any, NamedTuple
 
-HERE = os.path.dirname(os.path.abspath(__file__))
-CONVERTER = os.path.abspath(os.environ.get("CONVERTER") or os.path.join(HERE, "../contrib/truss2trace.py"))
-TABLE = os.path.abspath(os.environ.get("TABLE") or os.path.join(HERE, "kernel.tsv"))
+import harness
+import reference
+
+TABLE, WRITTEN = (os.path.join(harness.HERE, name) for name in ("kernel.tsv", "programs.txt"))
 RELEASES = {12: (12, 2, 0), 13: (13, 2, 4), 14: (14, 0, 0), 15: (15, 0, 0)}  # with patches: 13.2-p4
 SURE = 0.8  # no program makes a call of which the table is less sure
-HIDING = 2000  # random programs in which nothing may be found
-MOST_SHOWN = 10
+HIDING = 500  # random programs of a class in which nothing may be found
 VARIANTS = 8  # arguments of a call that succeeds by itself
 MOST_TRIED = 20  # how often arguments of a call are tried until it succeeds
-ASKING = 30  # random programs for which limits are asked
+ASKING = 34  # random programs for which limits are asked, of a release
 NOT_CAPABLE, NOT_IN_MODE = 93, 94
 NO_ENTRY, BAD_DESCRIPTOR, NO_CHILD, EXISTS, NO_DIRECTORY, IS_DIRECTORY = 2, 9, 10, 17, 20, 21
 AGAIN, IN_PROGRESS, NO_SOCKET, NO_CALL = 35, 36, 38, 78
@@ -51,6 +47,7 @@ ERRORS = {
     78: "Function not implemented", 93: "Capabilities insufficient", 94: "Not permitted in capability mode",
 }
 AFTER_RIGHTS = {2, 4, 17, 35, 37, 57}  # errnos that a kernel answers only after it has looked at the rights
+EVERY, ALL = reference.EVERYTHING, frozenset(reference.RIGHTS)  # those of a descriptor that was never limited, and all others
 
 
 # ---- What a kernel demands: the table
@@ -58,14 +55,9 @@ AFTER_RIGHTS = {2, 4, 17, 35, 37, 57}  # errnos that a kernel answers only after
 ALWAYS, NEVER = lambda it: True, lambda it: False
 
 
-def has(*names):
+def has(*names, word="FLAGS"):
     """Whether a call has one of these flags."""
-    return lambda it: not set(names).isdisjoint(it["FLAGS"].split("|"))
-
-
-def within(*names):
-    """Whether PROT has one of these."""
-    return lambda it: not set(names).isdisjoint(it["PROT"].split("|"))
+    return lambda it: not set(names).isdisjoint(it[word].split("|"))
 
 
 def plain_access(*names):
@@ -89,6 +81,7 @@ def is_odd_socket(it):
 
 
 WHEN = {  # conditions of the table's rights
+    None: ALWAYS,
     "the access reads": plain_access("O_RDONLY", "O_RDWR"),
     "it writes": plain_access("O_WRONLY", "O_RDWR"),
     "O_CREAT": has("O_CREAT"),
@@ -100,9 +93,9 @@ WHEN = {  # conditions of the table's rights
     "MODE is S_IFIFO": is_fifo,
     "INOFF is no null": lambda it: it["INOFF"] is not None,
     "OUTOFF is no null": lambda it: it["OUTOFF"] is not None,
-    "PROT has PROT_READ": within("PROT_READ"),
-    "PROT_EXEC": within("PROT_EXEC"),
-    "PROT_WRITE and MAP_SHARED": lambda it: within("PROT_WRITE")(it) and has("MAP_SHARED")(it),
+    "PROT has PROT_READ": has("PROT_READ", word="PROT"),
+    "PROT_EXEC": has("PROT_EXEC", word="PROT"),
+    "PROT_WRITE and MAP_SHARED": lambda it: has("PROT_WRITE", word="PROT")(it) and has("MAP_SHARED")(it),
     "N > 0": lambda it: it["N"] > 0,
     "M > 0": lambda it: it["M"] > 0,
     "it is no FD_NONE": lambda it: it["FD"] is not None,
@@ -137,6 +130,22 @@ FITS = {  # patterns that not each call of the name fits
 }
 
 
+class Entry(NamedTuple):
+    """A row of the table, as it stands there."""
+
+    call: str
+    pattern: str
+    rights: str
+    allowed: str
+    versions: str
+    source: str
+    sureness: str
+
+    @property
+    def is_sure(self):
+        return float(self.sureness) >= SURE
+
+
 class Need(NamedTuple):
     """Whose rights a call needs, which (None: those that it asks for), when, and whether a refusal is silent."""
 
@@ -144,14 +153,6 @@ class Need(NamedTuple):
     rights: Any
     when: Any = ALWAYS
     silent: Any = NEVER
-
-
-def closed_under(names):
-    """These rights, with those that are parts of them."""
-    parts = {"MMAP", "SEEK"} if "MMAP_X" in names else set()
-    if any(name.endswith(("AT", "AT_SOURCE", "AT_TARGET")) and name != "FSTAT" for name in names):
-        parts.add("LOOKUP")
-    return frozenset(names) | parts
 
 
 EVENT = frozenset({"EVENT"})
@@ -168,28 +169,37 @@ ODD_NEEDS = {
 }
 
 
-def needs_of(clause):
-    """What one clause of the table's rights says."""
-    if clause in ODD_NEEDS:
-        return ODD_NEEDS[clause]
-    who, rights, when = re.fullmatch(r"(\w+):(CAP_[A-Z_|]+|open)(?: if (.*))?", clause).groups()
-    names = [] if rights == "open" else [name.removeprefix("CAP_") for name in rights.split("|")]
-    return [Need(who, closed_under(names), WHEN[when] if when else ALWAYS)]
+@functools.lru_cache(None)
+def entries():
+    """The heads of the table, and its rows."""
+    heads, *rows = [Entry(*line.split("\t")) for line in harness.text_of(TABLE).splitlines()]
+    return heads, rows
+
+
+def needs_of(rights):
+    """What the table's rights say of a call."""
+    needs = []
+    for clause in rights.split("; ") if rights != "-" else []:
+        if clause in ODD_NEEDS:
+            needs += ODD_NEEDS[clause]
+        else:
+            who, names, when = re.fullmatch(r"(\w+):(CAP_[A-Z_|]+|open)(?: if (.*))?", clause).groups()
+            needs.append(Need(who, reference.rights(names.replace("open", "NONE")), WHEN[when]))
+    return needs
 
 
 def is_of(release, versions):
     """Whether a row is of a release: 12.2-, 12.2-14, 13.0-13.2-p3"""
-    found = re.fullmatch(r"([0-9.]+(?:-p[0-9]+)?)-([0-9.]+(?:-p[0-9]+)?)?", versions)
+    found = re.match(r"([0-9.]+(?:-p[0-9]+)?)-([0-9.]+(?:-p[0-9]+)?)?(?: |$)", versions)
     if not found:
         return False
-    first, last = ([int(part) for part in re.findall("[0-9]+", text or "99")] for text in found.groups())
-    return tuple(first) <= release and list(release)[: len(last)] <= last
+    first, last = (tuple(int(part) for part in re.findall("[0-9]+", text or "99")) for text in found.groups())
+    return first <= RELEASES[release] and RELEASES[release][: len(last)] <= last
 
 
 class Row(NamedTuple):
-    """A row of the table for one release."""
+    """What a row of the table says."""
 
-    call: str
     pattern: str
     fits: Any
     needs: list
@@ -197,36 +207,22 @@ class Row(NamedTuple):
     inherits: bool
 
 
-def row_of(call, pattern, rights, class_):
-    clauses = [] if rights == "-" else rights.split("; ")
-    commands = re.fullmatch(r"FD,(F_[A-Z0-9_|]+),\.\.", pattern)
-    fits = FITS.get(pattern, ALWAYS)
-    if commands:
-        fits = lambda it: it["COMMAND"] in commands[1].split("|")
-    needs = [need for clause in clauses for need in needs_of(clause)]
-    return Row(call, pattern, fits, needs, FORBIDDEN[class_], INHERITS in clauses)
+def row_of(entry):
+    commands = re.fullmatch(r"FD,(F_[A-Z0-9_|]+),\.\.", entry.pattern)
+    fits = (lambda it: it["COMMAND"] in commands[1].split("|")) if commands else FITS.get(entry.pattern, ALWAYS)
+    return Row(entry.pattern, fits, needs_of(entry.rights), FORBIDDEN[entry.allowed], INHERITS in entry.rights)
 
 
+@functools.lru_cache(None)
 def table_of(release):
-    """The rows of the table for a release, by the call's name; and the names that other releases have."""
-    table, others = collections.defaultdict(list), set()
-    with open(TABLE, encoding="utf-8") as file:
-        lines = [line.rstrip("\n").split("\t") for line in file]
-    for call, pattern, rights, class_, versions, _, sureness in lines[1:]:
-        if float(sureness) < SURE or "aio" in rights or class_.startswith("depends: EPERM"):
-            continue
-        others.add(call)
-        if is_of(RELEASES[release], versions):
-            table[call].append(row_of(call, pattern, rights, class_))
-    return dict(table), others - set(table)
-
-
-TABLES = {release: table_of(release) for release in RELEASES}
-EVERY = frozenset(
-    right for table, _ in TABLES.values() for rows in table.values() for row in rows for need in row.needs
-    for right in need.rights or ()
-)
-ALL = sorted(EVERY)
+    """The rows of the table for a release, by the call's name; and the names that only other releases have."""
+    table, names = collections.defaultdict(list), set()
+    for entry in entries()[1]:
+        if entry.is_sure and "aio" not in entry.rights and not entry.allowed.startswith("depends: EPERM") and entry.versions[0] != "n":
+            names.add(entry.call)
+            if is_of(release, entry.versions):
+                table[entry.call].append(row_of(entry))
+    return dict(table), names - set(table)
 
 
 # ---- The kernel
@@ -248,9 +244,6 @@ class Outcome(NamedTuple):
     answer: Any = 0
     silent: frozenset = frozenset()
 
-    def is_refused(self):
-        return self.errno in (NOT_CAPABLE, NOT_IN_MODE) or any(errno == NOT_CAPABLE for _, errno in self.silent)
-
 
 class Thing:
     """What a descriptor stands for. A message waits in the list of the socket that receives it."""
@@ -262,23 +255,17 @@ class Thing:
 class Descriptor(NamedTuple):
     thing: Thing
     rights: frozenset = EVERY
-    limited: bool = False
     closes: bool = False
 
 
-def outside(kind, rights, closes=False):
-    """A descriptor that came from elsewhere."""
-    return Descriptor(Thing(kind), rights, rights != EVERY, closes)
-
-
 class Process:
-    def __init__(self, table, inside=False):
-        self.table, self.inside, self.children, self.ended = table, inside, set(), []
+    def __init__(self, pid, table, inside=False):
+        self.pid, self.table, self.inside, self.children, self.ended = pid, table, inside, set(), []
 
-    def new(self, descriptor, least=0):
-        """The lowest free number from `least` on, which stands for this from here on."""
+    def add(self, *held, least=0):
+        """The lowest free number from `least` on, which stands for a descriptor of these from here on."""
         fd = next(number for number in range(least, 1_000_000) if number not in self.table)
-        self.table[fd] = descriptor
+        self.table[fd] = Descriptor(*held)
         return fd
 
 
@@ -293,8 +280,14 @@ WANTED = {  # the kind of thing that a call works on, and the errno where it is 
 }
 MAKES = {  # what is made of no descriptor, with all rights
     "socket": "socket", "kqueue": "kqueue", "kqueuex": "kqueue", "shm_open": "memory", "shm_open2": "memory",
-    "mq_open": "queue", "kmq_open": "queue", "fhopen": "file",
+    "mq_open": "queue", "kmq_open": "queue", "fhopen": "file", "sctp_peeloff": "socket",
 }
+DONE_AS = {  # calls that do what another one does
+    **dict.fromkeys("fstatat faccessat fchmodat fchownat chflagsat futimesat utimensat".split(), "look"),
+    **{"funlinkat": "unlinkat", "accept4": "accept", "pipe2": "pipe", "wait6": "wait4", "fexecve": "execve"},
+    **{"mkfifoat": "mknodat", "unheard_of": "_umtx_op"},
+}
+ANSWER_ONE = "read write sendmsg recvfrom sendto poll select".split()
 
 
 def leaves(path):
@@ -302,15 +295,21 @@ def leaves(path):
     return posixpath.normpath(path).split("/")[0] == ".."
 
 
+def must(holds, errno):
+    """Ends a call with an errno where this doesn't hold."""
+    if not holds:
+        raise OSError(errno, "")
+
+
 class Kernel:
-    """Processes with descriptors, and the names of files. Of each step it keeps what truss prints, the outcome, and
-    whether capability mode forbids it."""
+    """Processes with descriptors, and the names of files. Of each step it keeps what truss prints, the outcome, and whether capability
+    mode forbids it. What a call does is in `do_` and its name, with the process and the arguments."""
 
     def __init__(self, release, held=None):
         """`held` has the kind and the rights of each descriptor of the first process."""
-        self.release, (self.table, self.missing) = release, TABLES[release]
-        held = held or {fd: ("terminal", EVERY) for fd in range(3)}
-        self.processes = {100: Process({fd: outside(*each) for fd, each in held.items()})}
+        self.release, (self.table, self.missing) = release, table_of(release)
+        held = held or dict.fromkeys(range(3), ("terminal", EVERY))
+        self.processes = {100: Process(100, {fd: Descriptor(Thing(kind), rights) for fd, (kind, rights) in held.items()})}
         self.files = dict.fromkeys(["/", "/home", "/dev", "/home/d", "/home/d/d"], "directory")
         self.files |= dict.fromkeys(["/a", "/home/a", "/home/b", "/home/d/a", "/home/d/b", "/home/d/d/a"], "file")
         self.last, self.lines, self.outcomes, self.forbidden = 100, [], [], []
@@ -323,7 +322,7 @@ class Kernel:
         if "CHANGES" in it:
             it["IDENTS"] = [fd for fd, name, _ in it["CHANGES"] if name in WATCHED]
         if "TO" in it:
-            it["exists"] = self.path(step.pid, it["TODIR"], it["TO"]) in self.files
+            it["exists"] = self.path(self.processes[step.pid], it["TODIR"], it["TO"]) in self.files
         it["places"] = [(it[at], it[name]) for at, name in DIRECTORIES if at in it and name in it]
         for at, name in DIRECTORIES:
             if at in it and it.get(name, "")[:1] == "/":
@@ -353,21 +352,18 @@ class Kernel:
                 if not need.silent(it):
                     return errno
                 silent.add((fd, errno))
-        strict = any(leaves(path) and at in process.table and process.table[at].limited for at, path in it["places"])
-        return NOT_CAPABLE if strict else None
+        left = [process.table[at].rights for at, path in it["places"] if leaves(path) and at in process.table]
+        return None if all(reference.NEVER_LIMITED in rights for rights in left) else NOT_CAPABLE
 
     def fault(self, step, it):
         """The errno of what is wrong beside, or nothing."""
         table = self.processes[step.pid].table
         if step.call in WANTED:
             who, kind, errno = WANTED[step.call]
-            if it[who] not in table:
-                return BAD_DESCRIPTOR
-            if table[it[who]].thing.kind != kind:
-                return errno
-        for at, path in it["places"]:
-            if path[:1] != "/" and at is not None and table[at].thing.kind != "directory":
-                return NO_DIRECTORY
+            if it[who] not in table or table[it[who]].thing.kind != kind:
+                return errno if it[who] in table else BAD_DESCRIPTOR
+        if any(path[:1] != "/" and at is not None and table[at].thing.kind != "directory" for at, path in it["places"]):
+            return NO_DIRECTORY
         return step.errno
 
     # -- what is done
@@ -378,229 +374,166 @@ class Kernel:
         errno = self.refusal(step, it, silent) or self.fault(step, it)
         if not errno:
             try:
-                answer = getattr(self, f"do_{step.call}", self.do_other)(step, **step.args)
+                answer = self.done(self.processes[step.pid], step.call, step.args)
             except OSError as why:
                 errno = why.errno
-        outcome = Outcome(errno, answer, frozenset() if errno else frozenset(silent))
-        self.outcomes.append(outcome)
+        self.outcomes.append(Outcome(errno, answer, frozenset() if errno else frozenset(silent)))
         self.forbidden.append(self.forbids(it))
-        self.lines.append(f"{step.pid:5d}: {spelled(step, outcome)}")
-        return outcome
+        self.lines.append(f"{step.pid:5d}: {spelled(step, self.outcomes[-1])}")
+        return self.outcomes[-1]
 
-    def of(self, step):
-        return self.processes[step.pid]
+    def done(self, process, call, args):
+        """What a call that isn't refused answers."""
+        if call in MAKES:
+            return process.add(Thing(MAKES[call]), EVERY, "CLOEXEC" in args.get("TYPE", ""))
+        method = getattr(self, "do_" + DONE_AS.get(call, call), None)
+        answer = method(process, **args) if method else int(call in ANSWER_ONE)
+        return 0 if answer is None else answer
 
-    def path(self, pid, at, name):
+    def path(self, process, at, name):
         """The path of a name at a directory."""
-        held = self.processes[pid].table.get(at)
-        start = "/home" if held is None else held.thing.path or "/"
-        return posixpath.normpath(posixpath.join(start, name))
+        held = process.table.get(at)
+        return posixpath.normpath(posixpath.join("/home" if held is None else held.thing.path or "/", name))
 
-    def do_other(self, step, **_):
-        if step.call in MAKES:
-            return self.of(step).new(Descriptor(Thing(MAKES[step.call])))
-        return 1 if step.call in ("read", "write", "sendmsg", "recvfrom", "sendto", "poll", "select") else 0
-
-    def do_socket(self, step, TYPE, **_):
-        return self.of(step).new(Descriptor(Thing("socket"), closes="CLOEXEC" in TYPE))
-
-    def do_open(self, step, PATH, FLAGS):
+    def do_open(self, process, PATH, FLAGS):
         found = re.fullmatch("/dev/(?:fd/([0-9]+)|std(in|out|err))", PATH)
         if not found:
-            return self.do_openat(step, None, PATH, FLAGS)
+            return self.do_openat(process, None, PATH, FLAGS)
         copied = int(found[1]) if found[1] else ("in", "out", "err").index(found[2])
-        if copied not in self.of(step).table:
-            raise OSError(BAD_DESCRIPTOR, "")
-        return self.of(step).new(self.of(step).table[copied]._replace(closes="O_CLOEXEC" in FLAGS))
+        must(copied in process.table, BAD_DESCRIPTOR)
+        return process.add(*process.table[copied][:2], "O_CLOEXEC" in FLAGS)
 
-    def do_openat(self, step, DIR, PATH, FLAGS):
-        path, flags = self.path(step.pid, DIR, PATH), FLAGS.split("|")
-        if path not in self.files and "O_CREAT" not in flags:
-            raise OSError(NO_ENTRY, "")
+    def do_openat(self, process, DIR, PATH, FLAGS):
+        path, flags = self.path(process, DIR, PATH), FLAGS.split("|")
+        must(path in self.files or "O_CREAT" in flags, NO_ENTRY)
         kind = self.files.setdefault(path, "file")
-        if kind != "directory" and "O_DIRECTORY" in flags:
-            raise OSError(NO_DIRECTORY, "")
-        if kind == "directory" and {"O_WRONLY", "O_RDWR", "O_CREAT"} & set(flags):
-            raise OSError(IS_DIRECTORY, "")
-        below = Descriptor(None) if DIR is None or PATH[0] == "/" else self.of(step).table[DIR]
-        return self.of(step).new(below._replace(thing=Thing(kind, path), closes="O_CLOEXEC" in flags))
+        must(kind == "directory" or "O_DIRECTORY" not in flags, NO_DIRECTORY)
+        must(kind != "directory" or not {"O_WRONLY", "O_RDWR", "O_CREAT"} & set(flags), IS_DIRECTORY)
+        rights = EVERY if DIR is None or PATH[0] == "/" else process.table[DIR].rights
+        return process.add(Thing(kind, path), rights, "O_CLOEXEC" in flags)
 
-    def make_file(self, step, DIR, PATH, kind):
-        path = self.path(step.pid, DIR, PATH)
-        if path in self.files:
-            raise OSError(EXISTS, "")
+    def do_mknodat(self, process, DIR, PATH, kind="file", **_):
+        path = self.path(process, DIR, PATH)
+        must(path not in self.files, EXISTS)
         self.files[path] = kind
-        return 0
 
-    def do_mkdirat(self, step, DIR, PATH, **_):
-        return self.make_file(step, DIR, PATH, "directory")
+    def do_mkdirat(self, process, DIR, PATH, **_):
+        self.do_mknodat(process, DIR, PATH, "directory")
 
-    def do_mkfifoat(self, step, DIR, PATH, **_):
-        return self.make_file(step, DIR, PATH, "file")
+    def do_linkat(self, process, FROMDIR, FROM, TODIR, TO, **_):
+        must(self.files.get(self.path(process, FROMDIR, FROM)) == "file", NO_ENTRY)
+        self.do_mknodat(process, TODIR, TO)
 
-    def do_mknodat(self, step, DIR, PATH, **_):
-        return self.make_file(step, DIR, PATH, "file")
+    def do_unlinkat(self, process, DIR, PATH, **_):
+        must(self.files.get(self.path(process, DIR, PATH)) == "file", NO_ENTRY)
+        del self.files[self.path(process, DIR, PATH)]
 
-    def do_unlinkat(self, step, DIR, PATH, **_):
-        if self.files.get(self.path(step.pid, DIR, PATH)) != "file":
-            raise OSError(NO_ENTRY, "")
-        del self.files[self.path(step.pid, DIR, PATH)]
-        return 0
+    def do_look(self, process, DIR, PATH, **_):
+        must(self.path(process, DIR, PATH) in self.files, NO_ENTRY)
 
-    do_funlinkat = do_unlinkat
+    def do_renameat(self, process, FROMDIR, FROM, TODIR, TO):
+        before, after = self.path(process, FROMDIR, FROM), self.path(process, TODIR, TO)
+        must(self.files.get(before) == "file" and self.files.get(after) != "directory", NO_ENTRY)
+        del self.files[before]
+        self.files[after] = "file"
 
-    def do_look(self, step, DIR, PATH, **_):
-        if self.path(step.pid, DIR, PATH) not in self.files:
-            raise OSError(NO_ENTRY, "")
-        return 0
+    def do_accept(self, process, S, FLAGS="0"):
+        rights = process.table[S].rights if self.table["accept"][0].inherits else EVERY
+        return process.add(Thing("socket"), rights, "CLOEXEC" in FLAGS)
 
-    do_fstatat = do_faccessat = do_fchmodat = do_fchownat = do_chflagsat = do_futimesat = do_utimensat = do_look
+    def do_pipe(self, process, **_):
+        return process.add(Thing("pipe")), process.add(Thing("pipe"))
 
-    def do_renameat(self, step, FROMDIR, FROM, TODIR, TO):
-        from_path, to_path = self.path(step.pid, FROMDIR, FROM), self.path(step.pid, TODIR, TO)
-        if self.files.get(from_path) != "file" or self.files.get(to_path) == "directory":
-            raise OSError(NO_ENTRY, "")
-        del self.files[from_path]
-        self.files[to_path] = "file"
-        return 0
-
-    def do_linkat(self, step, FROMDIR, FROM, TODIR, TO, FLAGS):
-        if self.files.get(self.path(step.pid, FROMDIR, FROM)) != "file":
-            raise OSError(NO_ENTRY, "")
-        return self.make_file(step, TODIR, TO, "file")
-
-    def do_accept(self, step, S, FLAGS="0"):
-        held = self.of(step).table[S] if self.table["accept"][0].inherits else Descriptor(None)
-        return self.of(step).new(held._replace(thing=Thing("socket"), closes="CLOEXEC" in FLAGS))
-
-    do_accept4 = do_accept
-
-    def do_sctp_peeloff(self, step, S):
-        return self.of(step).new(Descriptor(Thing("socket")))
-
-    def do_pipe(self, step, **_):
-        return self.of(step).new(Descriptor(Thing("pipe"))), self.of(step).new(Descriptor(Thing("pipe")))
-
-    do_pipe2 = do_pipe
-
-    def do_socketpair(self, step, TYPE, **_):
+    def do_socketpair(self, process, TYPE, **_):
         one, two = Thing("socket"), Thing("socket")
         one.other, two.other = two, one
-        return tuple(self.of(step).new(Descriptor(thing, closes="CLOEXEC" in TYPE)) for thing in (one, two))
+        return tuple(process.add(thing, EVERY, "CLOEXEC" in TYPE) for thing in (one, two))
 
-    def do_sendmsg(self, step, S, FDS=(), **_):
-        table = self.of(step).table
-        if not set(FDS) <= set(table):
-            raise OSError(BAD_DESCRIPTOR, "")
+    def do_sendmsg(self, process, S, FDS=(), **_):
+        must(set(FDS) <= set(process.table), BAD_DESCRIPTOR)
         if FDS:
-            table[S].thing.other.messages.append([table[fd]._replace(closes=False) for fd in FDS])
+            process.table[S].thing.other.messages.append([process.table[fd][:2] for fd in FDS])
         return 1
 
-    def do_recvmsg(self, step, S, OUTSIDE=None, **_):
+    def do_recvmsg(self, process, S, OUTSIDE=None, **_):
         """The numbers of the descriptors that came, perhaps from outside the program."""
-        messages = [[outside(*OUTSIDE)]] if OUTSIDE else self.of(step).table[S].thing.messages
-        return tuple(self.of(step).new(descriptor) for descriptor in messages.pop(0)) if messages else ()
+        messages = [[(Thing("file"), *OUTSIDE)]] if OUTSIDE else process.table[S].thing.messages
+        return tuple(process.add(*held) for held in messages.pop(0)) if messages else ()
 
-    def do_dup(self, step, FD):
-        return self.of(step).new(self.of(step).table[FD]._replace(closes=False))
+    def do_dup(self, process, FD):
+        return process.add(*process.table[FD][:2])
 
-    def do_dup2(self, step, FD, NEW, closes=False):
+    def do_dup2(self, process, FD, NEW, closes=False):
         if FD != NEW:
-            self.of(step).table[NEW] = self.of(step).table[FD]._replace(closes=closes)
+            process.table[NEW] = process.table[FD]._replace(closes=closes)
         return NEW
 
-    def do_fcntl(self, step, FD, COMMAND, THIRD=None):
-        held, closes = self.of(step).table[FD], COMMAND.endswith("CLOEXEC")
+    def do_fcntl(self, process, FD, COMMAND, THIRD=None):
+        held, closes = process.table[FD], COMMAND.endswith("CLOEXEC")
         if COMMAND.startswith("F_DUPFD"):
-            return self.of(step).new(held._replace(closes=closes), THIRD or 0)
+            return process.add(*held[:2], closes, least=THIRD or 0)
         if COMMAND.startswith("F_DUP2FD"):
-            return self.do_dup2(step, FD, THIRD, closes)
+            return self.do_dup2(process, FD, THIRD, closes)
         if COMMAND == "F_SETFD":
-            self.of(step).table[FD] = held._replace(closes=THIRD == "FD_CLOEXEC")
-        return 0
+            process.table[FD] = held._replace(closes=THIRD == "FD_CLOEXEC")
 
-    def do_ioctl(self, step, FD, COMMAND, OUTSIDE=None):
+    def do_ioctl(self, process, FD, COMMAND, OUTSIDE=None):
         if COMMAND in ("FIOCLEX", "FIONCLEX"):
-            self.of(step).table[FD] = self.of(step).table[FD]._replace(closes=COMMAND == "FIOCLEX")
+            process.table[FD] = process.table[FD]._replace(closes=COMMAND == "FIOCLEX")
         if OUTSIDE:
-            self.of(step).new(outside(*OUTSIDE))
-        return 0
+            process.add(Thing("file"), *OUTSIDE)
 
-    def do_close(self, step, FD):
-        del self.of(step).table[FD]
-        return 0
+    def do_close(self, process, FD):
+        del process.table[FD]
 
-    def do_closefrom(self, step, FD):
-        return self.do_close_range(step, FD, 4294967295, "0")
+    def do_closefrom(self, process, FD):
+        self.do_close_range(process, FD, 4294967295, "0")
 
-    def do_close_range(self, step, FD, LAST, FLAGS):
-        table = self.of(step).table
-        for fd in [fd for fd in table if FD <= fd <= LAST]:
-            if FLAGS == "0":
-                del table[fd]
-            else:
-                table[fd] = table[fd]._replace(closes=True)
-        return 0
+    def do_close_range(self, process, FD, LAST, FLAGS):
+        for fd in [fd for fd in process.table if FD <= fd <= LAST]:
+            held = process.table.pop(fd)
+            if FLAGS != "0":
+                process.table[fd] = held._replace(closes=True)
 
-    def do_cap_rights_limit(self, step, FD, RIGHTS):
-        self.of(step).table[FD] = self.of(step).table[FD]._replace(rights=RIGHTS, limited=True)
-        return 0
+    def do_cap_rights_limit(self, process, FD, RIGHTS):
+        process.table[FD] = process.table[FD]._replace(rights=RIGHTS)
 
-    def do_cap_enter(self, step):
-        self.of(step).inside = True
-        return 0
+    def do_cap_enter(self, process):
+        process.inside = True
 
-    def do_fork(self, step, **_):
+    def do_fork(self, process, waits=True):
         """The child has no descriptor of kqueue."""
         self.last += 1
-        table = {fd: each for fd, each in self.of(step).table.items() if each.thing.kind != "kqueue"}
-        self.processes[self.last] = Process(table, self.of(step).inside)
-        if step.call == "fork":
-            self.of(step).children.add(self.last)
+        table = {fd: each for fd, each in process.table.items() if each.thing.kind != "kqueue"}
+        self.processes[self.last] = Process(self.last, table, process.inside)
+        process.children |= {self.last} if waits else set()
         return self.last
 
-    def do_pdfork(self, step, **_):
+    def do_pdfork(self, process, **_):
         """The child isn't one that wait4 waits for."""
-        return self.do_fork(step), self.of(step).new(Descriptor(Thing("process")))
+        return self.do_fork(process, False), process.add(Thing("process"))
 
-    def do_exit(self, step):
-        del self.processes[step.pid]
-        for process in self.processes.values():
-            if step.pid in process.children:
-                process.ended.append(step.pid)
-        return 0
+    def do_exit(self, process):
+        del self.processes[process.pid]
+        for other in self.processes.values():
+            other.ended += {process.pid} & other.children
 
-    def do_wait4(self, step, **_):
-        process = self.of(step)
-        if not process.children:
-            raise OSError(NO_CHILD, "")
-        if not process.ended:
-            return 0
-        process.children.remove(process.ended[0])
-        return process.ended.pop(0)
+    def do_wait4(self, process, **_):
+        must(process.children, NO_CHILD)
+        if process.ended:
+            process.children.remove(process.ended[0])
+            return process.ended.pop(0)
 
-    do_wait6 = do_wait4
+    def do_execve(self, process, **_):
+        process.table = {fd: each for fd, each in process.table.items() if not each.closes}
 
-    def do_execve(self, step, **_):
-        table = self.of(step).table
-        self.of(step).table = {fd: each for fd, each in table.items() if not each.closes}
-        return 0
-
-    do_fexecve = do_execve
-
-    def do_kevent(self, step, CHANGES, M, **_):
+    def do_kevent(self, process, CHANGES, M, **_):
         """As many events as changes that aren't made, else one."""
-        wrong = [fd for fd, name, _ in CHANGES if name in WATCHED and self.refuses_change(step, fd)]
+        wrong = [fd for fd, name, _ in CHANGES if name in WATCHED and not (fd in process.table and EVENT <= process.table[fd].rights)]
         return len(wrong) or min(M, 1)
 
-    def refuses_change(self, step, fd):
-        held = self.of(step).table.get(fd)
-        return not held or "EVENT" not in held.rights
-
-    def do__umtx_op(self, step, OUTSIDE, **_):
-        return self.of(step).new(outside(*OUTSIDE))
-
-    do_unheard_of = do__umtx_op
+    def do__umtx_op(self, process, OUTSIDE, **_):
+        return process.add(Thing("file"), *OUTSIDE)
 
 
 # ---- How truss prints a call
@@ -617,6 +550,26 @@ REST = {  # what stands for the two dots of a pattern
 }
 HEXADECIMAL = set("sendfile copy_file_range getdents aio_cancel funlinkat fspacectl sctp_peeloff kmq_timedsend".split())
 QUOTED = {"PATH", "FROM", "TO", "TARGET"}
+SPELLED = {  # arguments of calls that the table's pattern doesn't spell: the words of the table, and what is made of them
+    **dict.fromkeys(["sendmsg", "recvmsg"], "{S},{message},0"),
+    **dict.fromkeys(["sctp_generic_sendmsg", "sctp_generic_sendmsg_iov"], "{S:#x},0x7fffffffe8b0,0x1,{memory},0x0,0x0"),
+    **dict.fromkeys(["poll", "ppoll"], "{{ {polled} }},{count},-1"),
+    **dict.fromkeys(["select", "pselect"], "{most},{{ {listed} }},0x0,0x0,0x0"),
+    "pipe": "{made}", "pipe2": "{made},0", "socketpair": "{DOMAIN},{TYPE},0,{made}", "pdfork": "{made},{FLAGS}",
+    "kevent": "{KQ},{changes},{N},{events},{M},0x0",
+    "sendto": '{S},"a",1,0x0,{to}',
+    "fcntl": "{FD},{COMMAND},{THIRD}",
+    "ioctl": "{FD},{COMMAND},0x0",
+    "__cap_rights_get": "0,{FD},0x7fffffffe8b0",
+    "accept4": "{S},0x0,0x0,{FLAGS}",
+    "execve": '"/bin/b",[ "b" ],0x7fffffffe8c0',
+    "fexecve": '{FD},[ "b" ],0x7fffffffe8c0',
+    "close_range": "{FD},{LAST},{FLAGS}",
+    "closefrom": "{FD}",
+    "open": '"{PATH}",{FLAGS},00',
+    "_umtx_op": "0x0,UMTX_OP_SHM,0x1,0x80064e000,0x0",
+    "unheard_of": "1",
+}
 
 
 def spelled_word(step, word):
@@ -624,10 +577,8 @@ def spelled_word(step, word):
     value = step.args.get(word, 0)
     if word == "..":
         return REST.get(step.call, "0x0")
-    if word == "FD" and value is None:
-        return "0xffffff38"  # FD_NONE
     if value is None:
-        return "AT_FDCWD" if word.endswith("DIR") else "0x0"
+        return "0xffffff38" if word == "FD" else "AT_FDCWD" if word.endswith("DIR") else "0x0"  # FD_NONE
     if word == "RIGHTS":
         return f"{{ {','.join('CAP_' + right for right in sorted(value))} }}"
     if word in QUOTED or word == "NAME" and value != "SHM_ANON":
@@ -635,80 +586,31 @@ def spelled_word(step, word):
     return hex(value) if isinstance(value, int) and step.call in HEXADECIMAL else str(value)
 
 
-def spelled_message(step, outcome):
-    """The arguments of sendmsg and recvmsg."""
-    fds = outcome.answer or () if step.call == "recvmsg" else step.args.get("FDS", ())
-    if step.args.get("HIDDEN"):
-        return f"{step.args['S']},0x7fffffffe8a0,0"
-    name = "{ AF_INET 10.0.0.1:53 },16" if step.args.get("DEST") else "NULL,0"
-    listed = ",".join(map(str, fds)) if fds else ""
-    control = f"{{{{level=SOL_SOCKET,type=SCM_RIGHTS,data={{{listed}}}}}}},{16 + 4 * len(fds)}" if fds else "{},0"
-    return f'{step.args["S"]},{{{name},[{{"a",1}}],1,{control},0}},0'
+def made_of(step, outcome):
+    """What is made of the arguments of a call and its answer, for SPELLED."""
+    fds, is_hidden, has_name = (step.args.get(word, ()) for word in ("FDS", "HIDDEN", "DEST"))
+    answers = outcome.answer if isinstance(outcome.answer, tuple) else ()
+    sent, shown = answers if step.call == "recvmsg" else fds, answers[1:] if step.call == "pdfork" else answers
+    data = f"{{level=SOL_SOCKET,type=SCM_RIGHTS,data={{{','.join(map(str, sent))}}}}}"
+    control = f"{{{data}}},{16 + 4 * len(sent)}" if sent else "{},0"
+    to = "{ AF_INET 10.0.0.1:53 },16" if has_name else "NULL,0"
+    return {
+        "message": "0x7fffffffe8a0" if is_hidden else f'{{{to},[{{"a",1}}],1,{control},0}}',
+        "to": to, "memory": "0x7fffffffe8a0,0x10" if has_name else "0x0,0x0",
+        "made": f"{{ {', '.join(map(str, shown))} }}" if shown and not is_hidden else "0x7fffffffe8dc",
+        "polled": " ".join(f"{fd}/POLLIN" for fd in fds), "listed": " ".join(map(str, fds)),
+        "count": len(fds), "most": max([0, *fds]) + 1,
+    }
 
 
-def spelled_kevent(step, outcome):
-    """A change that isn't made, and doesn't fail the call, becomes an event."""
-    changes = [f" {fd},{name},{flag},0,0,0x0" for fd, name, flag in step.args["CHANGES"]]
-    wrong = {fd: errno for fd, errno in outcome.silent}
-    watched = [(fd, name) for fd, name, _ in step.args["CHANGES"] if name in WATCHED and fd in wrong]
-    events = [f" {fd},{name},EV_ERROR,0,{wrong[fd]},0x0" for fd, name in watched]
+def changes_of(step, outcome):
+    """The changes and the events of kevent. A change that isn't made, and doesn't fail the call, becomes an event."""
+    changes, wrong = step.args.get("CHANGES", ()), dict(outcome.silent)
+    events = [f" {fd},{name},EV_ERROR,0,{wrong[fd]},0x0" for fd, name, _ in changes if name in WATCHED and fd in wrong]
     if outcome.answer and not events and not outcome.errno:
         events = [" 0,EVFILT_READ,EV_CLEAR,0,1,0x0"]
-    before, after = (f"{{{''.join(listed)} }}" if listed else "0x0" for listed in (changes, events))
-    return f"{step.args['KQ']},{before},{step.args['N']},{after},{step.args['M']},0x0"
-
-
-def spelled_polled(step):
-    return f"{{ {' '.join(f'{fd}/POLLIN' for fd in step.args['FDS'])} }},{len(step.args['FDS'])},-1"
-
-
-def spelled_selected(step):
-    return f"{max([0, *step.args['FDS']]) + 1},{{ {' '.join(map(str, step.args['FDS']))} }},0x0,0x0,0x0"
-
-
-def spelled_address(step):
-    return '"a",1,0x0,' + ("{ AF_INET 10.0.0.1:53 },16" if step.args.get("DEST") else "NULL,0")
-
-
-def spelled_sctp(step):
-    to = "0x7fffffffe8a0,0x10" if step.args["DEST"] else "0x0,0x0"
-    return f"{step.args['S']:#x},0x7fffffffe8b0,0x1,{to},0x0,0x0"
-
-
-def spelled_pair(step, outcome):
-    """The arguments of a call that makes two descriptors, or a process with one."""
-    if step.args.get("HIDDEN") or outcome.errno:
-        shown = "0x7fffffffe8dc"
-    else:
-        shown = f"{{ {', '.join(map(str, outcome.answer))} }}"
-    if step.call == "pdfork":
-        return f"{{ {outcome.answer[1]} }},{step.args['FLAGS']}" if shown[0] == "{" else f"{shown},{step.args['FLAGS']}"
-    if step.call == "socketpair":
-        return f"{step.args['DOMAIN']},{step.args['TYPE']},0,{shown}"
-    return f"{shown},0" if step.call == "pipe2" else shown
-
-
-SPELLINGS = {  # of calls that the table's pattern doesn't spell
-    **dict.fromkeys(["sendmsg", "recvmsg"], spelled_message),
-    **dict.fromkeys(["pipe", "pipe2", "socketpair", "pdfork"], spelled_pair),
-    **dict.fromkeys(["poll", "ppoll"], lambda step, _: spelled_polled(step)),
-    **dict.fromkeys(["select", "pselect"], lambda step, _: spelled_selected(step)),
-    "kevent": spelled_kevent,
-    "sendto": lambda step, _: f"{step.args['S']},{spelled_address(step)}",
-    "fcntl": lambda step, _: "{FD},{COMMAND},{THIRD}".format(**{"THIRD": "0x0", **step.args}),
-    "ioctl": lambda step, _: "{FD},{COMMAND},0x0".format(**step.args),
-    "__cap_rights_get": lambda step, _: "0,{FD},0x7fffffffe8b0".format(**step.args),
-    **dict.fromkeys(["sctp_generic_sendmsg", "sctp_generic_sendmsg_iov"], lambda step, _: spelled_sctp(step)),
-    "accept4": lambda step, _: "{S},0x0,0x0,{FLAGS}".format(**step.args),
-    "execve": lambda step, _: '"/bin/b",[ "b" ],0x7fffffffe8c0',
-    "fexecve": lambda step, _: f'{step.args["FD"]},[ "b" ],0x7fffffffe8c0',
-    "close_range": lambda step, _: "{FD},{LAST},{FLAGS}".format(**step.args),
-    "closefrom": lambda step, _: str(step.args["FD"]),
-    "shm_open": lambda step, _: f"{spelled_word(step, 'NAME')},O_RDWR,0600",
-    "open": lambda step, _: '"{PATH}",{FLAGS},00'.format(**step.args),
-    "_umtx_op": lambda step, _: "0x0,UMTX_OP_SHM,0x1,0x80064e000,0x0",
-    "unheard_of": lambda step, _: "1",
-}
+    listed = {"changes": [f" {fd},{name},{flag},0,0,0x0" for fd, name, flag in changes], "events": events}
+    return {word: f"{{{''.join(parts)} }}" if parts else "0x0" for word, parts in listed.items()}
 
 
 def spelled(step, outcome):
@@ -717,16 +619,17 @@ def spelled(step, outcome):
         return "process exit, rval = 0"
     if step.args.get("HIDDEN") == "cut":
         return f"{step.call}("
-    if step.call in SPELLINGS:
-        args = SPELLINGS[step.call](step, outcome)
+    if step.call in SPELLED:
+        words = {**made_of(step, outcome), **changes_of(step, outcome), "THIRD": "0x0", **step.args}
+        args = SPELLED[step.call].format(**words)
     else:
-        rows = [row for table, _ in TABLES.values() for row in table.get(step.call, [])]
-        args = ",".join(spelled_word(step, word) for word in filter(None, rows[0].pattern.split(",")))
+        row = next((rows[step.call][0] for rows, _ in map(table_of, RELEASES) if step.call in rows))
+        args = ",".join(spelled_word(step, word) for word in filter(None, row.pattern.split(",")))
     if outcome.errno:
         return f"{step.call}({args}) ERR#{outcome.errno} '{ERRORS[outcome.errno]}'"
     answer = outcome.answer
     if isinstance(answer, tuple):
-        answer = answer[0] if step.call == "pdfork" else 1 if step.call == "recvmsg" else 0
+        answer = answer[0] if step.call == "pdfork" else int(step.call == "recvmsg")
     return f"{step.call}({args}) = {answer} (0x{answer:x})"
 
 
@@ -756,9 +659,7 @@ class Program:
     def lines(self, marked=False):
         """The recording. Marked, each line has its step's number before it, by a call without an effect."""
         for at, (step, line) in enumerate(zip(self.steps, self.kernel.lines)):
-            if marked:
-                yield f"{step.pid:5d}: utrace(0x{at:x},0x0) = 0 (0x0)\n"
-            yield line + "\n"
+            yield (f"{step.pid:5d}: utrace(0x{at:x},0x0) = 0 (0x0)\n" if marked else "") + line + "\n"
 
     def has(self, *calls):
         return any(step.call in calls for step in self.steps)
@@ -775,12 +676,14 @@ CHOICES = {  # values of arguments, by the call's name and the table's word, or 
     ("open", "PATH"): ["a", "b", "d", "/dev/fd/0", "/dev/stdin", "/a"],
     ("pdfork", "FLAGS"): ["0x0", "PD_DAEMON"],
     ("ioctl", "COMMAND"): ["FIONREAD", "TIOCGWINSZ", "SIOCGIFADDR"],
+    ("execve", "PATH"): ["/bin/b"],
     "FLAGS": ["0"],
     "PATH": ["a", "a", "b", "c", "d/a", "e", "/a", "../a"],
     "FROM": ["a", "b", "c"],
     "TO": ["a", "b", "c", "d/b"],
     "TARGET": ["a"],
     "NAME": ["SHM_ANON", "/a"],
+    "NEW": range(12),
     "PROT": ["PROT_READ", "PROT_READ|PROT_WRITE", "PROT_READ|PROT_EXEC"],
     "COMMAND": COMMANDS,
     "DEST": [True, False, False],
@@ -815,16 +718,36 @@ APART = set("""_umtx_op __mac_execve abort2 aio_fsync aio_read aio_write cap_ent
 cap_rights_limit close close_range closefrom dup dup2 execve exit fexecve fork lio_listio pdfork pipe pipe2 reboot
 recvmsg socketpair thr_create thr_exit thr_new utrace wait4 wait6""".split())
 
+EXECS, SETS = ("execve", "fexecve"), "CLOSE_RANGE_CLOEXEC"
 
+# Calls with the values that some of their arguments may have there (None: those that they have elsewhere)
+USUAL = "read write lseek fstat openat poll kevent accept select".split()
+MADE = [(call, {}) for call in "open openat openat openat socket kqueue pipe socketpair".split()]
+COPIED = [
+    ("dup", {}), ("dup2", {}), ("fcntl", {"COMMAND": ["F_DUP2FD", "F_DUP2FD_CLOEXEC"], "THIRD": range(12)}),
+    *[("fcntl", {"COMMAND": ["F_DUPFD", "F_DUPFD_CLOEXEC"], "THIRD": [0, 5]})] * 2,
+]
+CHANGED = [
+    ("cap_enter", {}), ("closefrom", {"FD": range(5, 10)}),
+    ("close_range", {"FD": None, "LAST": [4294967295], "FLAGS": ["0"]}),
+    ("close_range", {"FD": range(5), "LAST": range(5, 8), "FLAGS": [SETS]}),
+    *[("cap_rights_limit", {})] * 16, *[("ioctl", {"COMMAND": ["FIOCLEX", "FIONCLEX"]})] * 5, *[("close", {})] * 15,
+]
+FORKED = [(call, {}) for call in "execve fexecve exit exit fork fork fork fork pdfork pdfork".split()] + [("wait4", {"PID": [-1]})] * 2
+HIDDEN = [
+    ("pipe2", {"HIDDEN": [True]}), ("recvmsg", {"HIDDEN": [True], "OUTSIDE": None}), ("_umtx_op", {"OUTSIDE": None}),
+    ("ioctl", {"COMMAND": ["CRIOGET"], "OUTSIDE": None}), ("unheard_of", {"OUTSIDE": None}), ("recvmsg", {"OUTSIDE": None}),
+    ("unheard_of", {"OUTSIDE": None, "HIDDEN": ["cut"]}),
+]
+
+
+@functools.lru_cache(None)
 def calls_of(release):
     """The calls of the table that a random program makes: those that need a descriptor, and others."""
-    table = TABLES[release][0]
+    table = table_of(release)[0]
     names = [name for name in sorted(table) if name not in APART]
     uses = [name for name in names if any(row.needs for row in table[name])]
     return uses, [name for name in names if name not in uses]
-
-
-CALLS = {release: calls_of(release) for release in RELEASES}
 
 
 class Author:
@@ -832,16 +755,18 @@ class Author:
 
     def __init__(self, chance, release, held=None):
         self.chance, self.program = chance, Program(release, held)
-        self.kernel, self.pair, self.is_calm, self.stays = self.program.kernel, None, False, False
-        self.uses, self.others = CALLS[release]
+        self.kernel, self.pair, (self.uses, self.others) = self.program.kernel, None, calls_of(release)
+        self.is_calm = self.stays = self.is_told = self.has_left = False
 
     def do(self, pid, call, errno=None, **args):
-        """Does a step, unless capability mode would refuse it and the program is calm, or a path leaves its directory
-        and none may. That of getfhat may in no program, since truss doesn't show it."""
+        """Does a step, unless capability mode would refuse it and the program is calm, or a path leaves its directory and none may (that of
+        getfhat may in no program, since truss doesn't show it), or a trace that has to tell enough for limits wouldn't."""
         it = self.kernel.facts(Step(pid, call, args))
         is_left = any(leaves(path) for _, path in it["places"])
-        if self.is_calm and self.kernel.forbids(it) or is_left and (self.stays or call == "getfhat"):
+        is_untold = self.is_told and (self.has_left and call in EXECS or args.get("FLAGS") == SETS and self.program.has(*EXECS))
+        if self.is_calm and self.kernel.forbids(it) or is_left and (self.stays or call == "getfhat") or is_untold:
             return None
+        self.has_left |= is_left
         return self.program.do(pid, call, errno, **args)
 
     def pick(self, pid, kind=None):
@@ -851,6 +776,9 @@ class Author:
         fds = [fd for fd, held in table.items() if held.thing.kind in kinds]
         return self.chance.choice(fds) if fds and self.chance.random() < 0.95 else self.chance.randrange(10)
 
+    def some(self, share):
+        return reference.all_of(right for right in reference.RIGHTS if self.chance.random() < share)
+
     def argument(self, pid, call, word):
         """A value for a word of the table."""
         if word in HOLDERS:
@@ -858,7 +786,9 @@ class Author:
             return self.pick(pid, wanted[1] if wanted[0] == word else None)
         if word.endswith("DIR"):
             return None if self.chance.random() < 0.2 else self.pick(pid, "directory")
-        if word == "PATH" and not self.stays and self.chance.random() < 0.2:
+        if word in ("RIGHTS", "OUTSIDE"):
+            return self.some(0.97) if word == "RIGHTS" else (self.some(0.5), self.chance.random() < 0.5)
+        if word == "PATH" and call != "execve" and not self.stays and self.chance.random() < 0.2:
             return "../a"
         return self.chance.choice(CHOICES.get((call, word)) or CHOICES.get(word) or [0])
 
@@ -871,12 +801,16 @@ class Author:
             words = ("FILTER", "CHANGE")
             listed = [(self.pick(pid), *(self.argument(pid, call, word) for word in words)) for _ in range(changes)]
             return {"KQ": self.argument(pid, call, "KQ"), "CHANGES": listed, "N": changes, "M": room}
-        pattern = self.kernel.table[call][0].pattern
-        words = [word for word in re.findall("[A-Z]+", pattern.split(",")[0] if call in DROPPED else pattern)]
+        pattern = self.kernel.table[call][0].pattern if call in self.kernel.table else ""
+        words = re.findall("[A-Z]+", pattern.split(",")[0] if call in DROPPED else pattern)
         args = {word: self.argument(pid, call, word) for word in [*words, *MORE.get(call, [])]}
-        if args.get("COMMAND") == "F_SETFD":
-            args["THIRD"] = self.chance.choice(["FD_CLOEXEC", "0"])
-        return args
+        return {**args, "THIRD": self.chance.choice(["FD_CLOEXEC", "0"])} if args.get("COMMAND") == "F_SETFD" else args
+
+    def choose(self, pid, calls):
+        """One of these calls."""
+        call, given = self.chance.choice(calls)
+        args = {word: self.chance.choice(values) if values else self.argument(pid, call, word) for word, values in given.items()}
+        return self.do(pid, call, **{**self.arguments(pid, call), **args})
 
     def prepare(self, pid, call):
         """Makes a descriptor of the kind that a call works on, where the process has none."""
@@ -888,54 +822,10 @@ class Author:
     def use(self, pid):
         """A call of the table."""
         call = self.chance.choice(self.uses if self.chance.random() < 0.9 else self.others)
-        usual = self.chance.choice(["read", "write", "lseek", "fstat", "openat", "poll", "kevent", "accept", "select"])
-        call = call if self.chance.random() < 0.6 else usual
+        call = call if self.chance.random() < 0.6 else self.chance.choice(USUAL)
         self.prepare(pid, call)
         fails = IN_PROGRESS if call == "connect" else self.chance.choice((AGAIN, NO_ENTRY))
         self.do(pid, call, fails if self.chance.random() < 0.1 else None, **self.arguments(pid, call))
-
-    def make(self, pid):
-        """A call that makes descriptors."""
-        call = self.chance.choice(["open", "openat", "openat", "openat", "socket", "kqueue", "pipe", "socketpair"])
-        if call == "pipe":
-            self.do(pid, call)
-        else:
-            self.do(pid, call, **self.arguments(pid, call))
-
-    def copy(self, pid):
-        """A call that copies a descriptor."""
-        fd, to = self.pick(pid), self.chance.randrange(12)
-        what = self.chance.randrange(5)
-        if what == 0:
-            self.do(pid, "dup", FD=fd)
-        elif what == 1:
-            self.do(pid, "dup2", FD=fd, NEW=to)
-        elif what == 2:
-            self.do(pid, "fcntl", FD=fd, COMMAND=self.chance.choice(["F_DUP2FD", "F_DUP2FD_CLOEXEC"]), THIRD=to)
-        else:
-            least = self.chance.choice([0, 5])
-            self.do(pid, "fcntl", FD=fd, COMMAND=self.chance.choice(["F_DUPFD", "F_DUPFD_CLOEXEC"]), THIRD=least)
-
-    def change(self, pid):
-        """A call that closes or limits descriptors, or begins capability mode."""
-        what, fd = self.chance.randrange(40), self.pick(pid)
-        if what == 0:
-            self.do(pid, "cap_enter")
-        elif what == 1:
-            self.do(pid, "close_range", FD=fd, LAST=4294967295, FLAGS="0")
-        elif what == 2:
-            self.do(pid, "close_range", FD=fd, LAST=fd + 3, FLAGS="CLOSE_RANGE_CLOEXEC")
-        elif what == 3:
-            self.do(pid, "closefrom", FD=max(fd, 5))
-        elif what < 20:
-            self.do(pid, "cap_rights_limit", FD=fd, RIGHTS=self.some(0.97))
-        elif what < 25:
-            self.do(pid, "ioctl", FD=fd, COMMAND=self.chance.choice(["FIOCLEX", "FIONCLEX"]))
-        else:
-            self.do(pid, "close", FD=fd)
-
-    def some(self, share):
-        return closed_under([right for right in ALL if self.chance.random() < share])
 
     def message(self, pid):
         """Messages with descriptors go through one pair of sockets, so that they come as they were sent."""
@@ -952,87 +842,30 @@ class Author:
             self.do(pid, "sendmsg", S=self.chance.choice(ends[0]), FDS=sent, DEST=False)
 
     def fork(self, pid):
-        what = self.chance.randrange(6)
-        if what == 0:
-            call = self.chance.choice(["execve", "fexecve"])
-            self.do(pid, call, **({"PATH": "/bin/b"} if call == "execve" else {"FD": self.pick(pid)}))
-        elif what == 1 and len(self.kernel.processes) > 1:
-            self.do(pid, "exit")
-        elif what in (2, 3) and len(self.kernel.processes) < 5:
-            self.do(pid, "fork")
-        elif what == 4 and len(self.kernel.processes) < 5:
-            self.do(pid, "pdfork", FLAGS=self.argument(pid, "pdfork", "FLAGS"))
-        elif what == 5:
-            self.do(pid, "wait4", PID=-1)
-
-    def begin(self):
-        """It opens what many calls need."""
-        self.do(100, "openat", DIR=None, PATH="d", FLAGS="O_RDONLY|O_DIRECTORY")
-        for _ in range(self.chance.randrange(4)):
-            self.make(100)
+        count = len(self.kernel.processes)
+        self.choose(pid, [(call, given) for call, given in FORKED if count > 1 or call != "exit" if count < 5 or "fork" not in call])
 
     def step(self):
-        kinds = [self.use] * 12 + [self.make] * 5 + [self.copy, self.change] * 3 + [self.message, self.fork] * 2
+        made, copied, changed = (functools.partial(self.choose, calls=calls) for calls in (MADE, COPIED, CHANGED))
+        kinds = [self.use] * 12 + [made] * 5 + [copied, changed] * 3 + [self.message, self.fork] * 2
         self.chance.choice(kinds)(self.chance.choice(sorted(self.kernel.processes)))
 
-    def end(self):
+    def written(self, length, calm_from=None):
+        """The program, of so many steps; from one of these on, with nothing that capability mode forbids."""
+        self.do(100, "openat", DIR=None, PATH="d", FLAGS="O_RDONLY|O_DIRECTORY")
+        for _ in range(self.chance.randrange(4)):
+            self.choose(100, MADE)
+        for at in range(length):
+            self.is_calm = calm_from is not None and at >= calm_from
+            if self.kernel.processes:
+                self.step()
+        return self.ended()
+
+    def ended(self):
+        """The program, in which all processes end."""
         for pid in sorted(self.kernel.processes):
             self.do(pid, "exit")
-
-
-class Hider(Author):
-    """Writes a random program that a recording doesn't show in full: threads, descriptors that come unseen, lines that
-    are cut short."""
-
-    def __init__(self, chance, release, held=None):
-        super().__init__(chance, release, held)
-        self.threads = set()
-
-    def step(self):
-        pid = self.chance.choice(sorted(self.kernel.processes))
-        what = self.chance.randrange(10)
-        if what == 0:
-            self.hide(pid, self.pick(pid))
-        elif what == 1 and self.chance.random() < 0.3:
-            self.threads.add(pid)
-            self.do(pid, "thr_new")
-        else:
-            super().step()
-        self.threads &= set(self.kernel.processes)
-        if self.program.steps[-1].call in ("execve", "fexecve"):
-            self.threads.discard(self.program.steps[-1].pid)
-        if self.threads and len(self.kernel.lines) > 1:
-            self.swap(*self.kernel.lines[-2:])
-
-    def swap(self, first, second):
-        """Two calls of threads in one process may be printed in the other order. That of a limit and a use isn't made
-        up for."""
-        kinds, pids = [], set()
-        for line in (first, second):
-            name = re.search(r": (\w+)\(", line)
-            made = name and "ERR#" not in line
-            kinds.append(next((kind for kind, names in SWAPS.items() if made and name[1] in names), None))
-            pids.add(int(line.split(":")[0]))
-        if tuple(kinds) in SWAPPED and pids <= self.threads and len(pids) == 1 and self.chance.random() < 0.7:
-            self.kernel.lines[-2:] = second, first
-
-    def hide(self, pid, fd):
-        """A call that makes descriptors which the recording doesn't show, or shows as ones from outside."""
-        what, made = self.chance.randrange(7), ("file", self.some(0.5), self.chance.random() < 0.5)
-        if what == 0:
-            self.do(pid, "pipe2", HIDDEN=True)
-        elif what == 1:
-            self.do(pid, "recvmsg", S=fd, HIDDEN=True, OUTSIDE=made)
-        elif what == 2:
-            self.do(pid, "_umtx_op", OUTSIDE=made)
-        elif what == 3:
-            self.do(pid, "ioctl", FD=fd, COMMAND="CRIOGET", OUTSIDE=made)
-        elif what == 4:
-            self.do(pid, "unheard_of", OUTSIDE=made)
-        elif what == 5:
-            self.do(pid, "recvmsg", S=fd, OUTSIDE=made)
-        else:
-            self.do(pid, "unheard_of", OUTSIDE=made, HIDDEN="cut")
+        return self.program
 
 
 SWAPS = {
@@ -1044,317 +877,100 @@ SWAPPED = {
 }
 
 
-def random_program(author, length, calm_from=None):
-    """What an author writes in so many steps; from one of these on, nothing that capability mode forbids."""
-    author.begin()
-    for at in range(length):
-        author.is_calm = calm_from is not None and at >= calm_from
-        if author.kernel.processes:
-            author.step()
-    author.end()
-    return author.program
+class Hider(Author):
+    """Writes a random program that a recording doesn't show in full: threads, descriptors that come unseen, lines that are cut short."""
+
+    def __init__(self, chance, release, held=None):
+        super().__init__(chance, release, held)
+        self.threads = set()
+
+    def step(self):
+        pid, what = self.chance.choice(sorted(self.kernel.processes)), self.chance.randrange(10)
+        if what == 0:
+            self.choose(pid, HIDDEN)
+        elif what == 1 and self.chance.random() < 0.3:
+            self.threads.add(pid)
+            self.do(pid, "thr_new")
+        else:
+            super().step()
+        self.threads &= set(self.kernel.processes)
+        if self.program.steps[-1].call in EXECS:
+            self.threads.discard(self.program.steps[-1].pid)
+        if self.threads and len(self.kernel.lines) > 1:
+            self.swap(*self.kernel.lines[-2:])
+
+    def swap(self, *lines):
+        """Two calls of threads in one process may be printed in the other order. That of a limit and a use isn't made up for."""
+        names = [re.match(r" *\d+: (\w+)\((?!.*ERR#)", line) for line in lines]
+        kinds = tuple(next((kind for kind in SWAPS if name and name[1] in SWAPS[kind]), None) for name in names)
+        pids = {int(line.split(":")[0]) for line in lines}
+        if kinds in SWAPPED and pids <= self.threads and len(pids) == 1 and self.chance.random() < 0.7:
+            self.kernel.lines[-2:] = reversed(lines)
 
 
-# ---- Eight written programs
+# ---- Written programs
 
 
-class Runner:
-    """A process of a written program. Calling it does a step, which must succeed, or fail with the errno given."""
+def value_of(text, names):
+    """The value of an argument of a written program."""
+    text = re.sub(r"\$(\w+)", lambda it: str(names[it[1]]), text)
+    try:
+        return ast.literal_eval(text)
+    except (ValueError, SyntaxError):
+        return text
 
-    def __init__(self, program, pid=100):
-        self.program, self.pid = program, pid
 
-    def __call__(self, call, errno=None, **args):
-        outcome = self.program.do(self.pid, call, None if errno in (NO_ENTRY, EXISTS) else errno, **args)
+def written(text, release):
+    """A written program. Each step must succeed, or fail with the errno that is given."""
+    program, names = Program(release), {"it": 100}
+    for line in text.splitlines():
+        found = re.fullmatch(r"(?:(\w+): )?(?:([\w,]+) = )?(\w+)((?: \w+=\S+)*)(?: ERR#(\d+))?", line)
+        who, made, call, args, errno = *found.groups()[:4], found[5] and int(found[5])
+        if call in program.kernel.missing:
+            continue
+        args = {word: value_of(text, names) for word, _, text in (arg.partition("=") for arg in args.split())}
+        outcome = program.do(names[who or "it"], call, None if errno in (NO_ENTRY, EXISTS) else errno, **args)
         if outcome.errno != errno or outcome.silent:
-            raise AssertionError(f"{self.pid} {call} {args}: {outcome}")
-        return outcome.answer
-
-    def open(self, path, flags="O_RDONLY", at=None):
-        return self("openat", DIR=at, PATH=path, FLAGS=flags)
-
-    def close(self, *fds):
-        for fd in fds:
-            self("close", FD=fd)
-
-    def fork(self):
-        return Runner(self.program, self("fork"))
-
-
-def server(it):
-    """It accepts connections, answers them, and writes a log."""
-    log = it.open("log", "O_WRONLY|O_APPEND|O_CREAT")
-    it("openat", NO_ENTRY, DIR=None, PATH="server.conf", FLAGS="O_RDONLY")
-    s = it("socket", DOMAIN="PF_INET", TYPE="SOCK_STREAM")
-    it("setsockopt", S=s)
-    it("bind", S=s)
-    it("listen", S=s)
-    for turn in range(2):
-        it("select", FDS=[s])
-        one = it("accept4", S=s, FLAGS="SOCK_CLOEXEC")
-        it("getpeername", S=one)
-        it("read", AGAIN if turn else None, FD=one)
-        it("poll", FDS=[one])
-        it("recvfrom", S=one)
-        it("write", FD=one)
-        it("shutdown", S=one)
-        it("write", FD=log)
-        it.close(one)
-    it("accept", AGAIN, S=s)
-    two = it("accept", S=s)
-    child = it.fork()
-    child.close(s)
-    child("read", FD=two)
-    child("sendto", S=two, DEST=False)
-    child("exit")
-    it.close(two)
-    it("kill", PID=it.pid, SIG="0")
-    it("exit")
-
-
-def shell(it):
-    """It reads a script, and runs a pipeline and a command that writes into a file."""
-    script = it.open("script", "O_RDWR|O_CREAT|O_CLOEXEC")
-    it("read", FD=script)
-    read_end, write_end = it("pipe")
-    one = it.fork()
-    one("dup2", FD=write_end, NEW=1)
-    one.close(read_end, write_end)
-    one("execve", PATH="/bin/b")
-    one("write", FD=1)
-    one("exit")
-    two = it.fork()
-    two("dup2", FD=read_end, NEW=0)
-    two.close(read_end, write_end)
-    two("read", FD=0)
-    two("read", FD=script)
-    two("write", FD=1)
-    two("exit")
-    it.close(read_end, write_end)
-    it("wait4", PID=-1)
-    it("wait4", PID=-1)
-    it("read", FD=script)
-    saved = it("fcntl", FD=1, COMMAND="F_DUPFD_CLOEXEC", THIRD=10)
-    out = it.open("out", "O_WRONLY|O_CREAT|O_TRUNC")
-    it("dup2", FD=out, NEW=1)
-    it.close(out)
-    it("write", FD=1)
-    it("dup2", FD=saved, NEW=1)
-    it.close(saved)
-    it("read", FD=script)
-    it("write", FD=2)
-    it("exit")
-
-
-def digest(it):
-    """It reads a log, and puts a file in the place of another one, twice."""
-    log = it.open("log", "O_RDWR|O_CREAT")
-    it("mkdirat", DIR=None, PATH="digest")
-    folder = it.open("digest", "O_RDONLY|O_DIRECTORY")
-    it("fstat", FD=log)
-    it("openat", NO_ENTRY, DIR=folder, PATH="last", FLAGS="O_RDONLY")
-    for turn in range(2):
-        it("read", FD=log)
-        new = it.open("new", "O_WRONLY|O_CREAT|O_TRUNC", folder)
-        it("write", FD=new)
-        it("fsync", FD=new)
-        it.close(new)
-        it("renameat", FROMDIR=folder, FROM="new", TODIR=folder, TO="last")
-        it("faccessat", DIR=folder, PATH="last")
-        it("getdirentries", FD=folder)
-    state = it.open("state", "O_RDWR|O_CREAT", folder)
-    it("pwrite", FD=state)
-    it("mkdirat", DIR=folder, PATH="old")
-    old = it.open("old", "O_RDONLY|O_DIRECTORY", folder)
-    it("linkat", FROMDIR=folder, FROM="last", TODIR=old, TO="first", FLAGS="0")
-    it("unlinkat", NO_ENTRY, DIR=old, PATH="second")
-    it("fchmodat", NO_ENTRY, DIR=folder, PATH="lost")
-    it("renameat", FROMDIR=folder, FROM="state", TODIR=old, TO="first")
-    it("write", FD=1)
-    it("exit")
-
-
-def watcher(it):
-    """It waits for its files and a socket by kqueue, and reads what is there."""
-    log = it.open("log", "O_RDWR|O_CREAT")
-    queue = it("kqueue")
-    s = it("socket", DOMAIN="PF_LOCAL", TYPE="SOCK_STREAM")
-    it("connect", IN_PROGRESS, S=s)
-    both = [(log, "EVFILT_VNODE", "EV_ADD"), (s, "EVFILT_READ", "EV_ADD")]
-    it("kevent", KQ=queue, CHANGES=both, N=2, M=0)
-    for _ in range(2):
-        it("kevent", KQ=queue, CHANGES=[], N=0, M=8)
-        it("read", FD=log)
-        it("kevent", KQ=queue, CHANGES=[(s, "EVFILT_WRITE", "EV_ADD"), (7, "EVFILT_TIMER", "EV_ADD")], N=2, M=8)
-        it("write", FD=s)
-    it("kevent", KQ=queue, CHANGES=[(log, "EVFILT_VNODE", "EV_DELETE")], N=1, M=0)
-    it("fstat", FD=log)
-    it.close(log)
-    it("kevent", KQ=queue, CHANGES=[(s, "EVFILT_READ", "EV_DELETE")], N=1, M=8)
-    it.close(s, queue)
-    it("write", FD=1)
-    it("exit")
-
-
-def proxy(it):
-    """It connects to a server, and hands on between that and its own client by poll."""
-    here = it("socket", DOMAIN="PF_INET", TYPE="SOCK_STREAM")
-    it("bind", S=here)
-    it("listen", S=here)
-    there = it("socket", DOMAIN="PF_INET", TYPE="SOCK_STREAM")
-    it("fcntl", FD=there, COMMAND="F_SETFL")
-    it("connect", IN_PROGRESS, S=there)
-    it("poll", FDS=[there])
-    it("getsockopt", S=there)
-    it("poll", FDS=[here, 2])
-    client = it("accept", S=here)
-    for _ in range(2):
-        it("ppoll", FDS=[client, there, here])
-        it("recvfrom", S=client)
-        it("sendto", S=there, DEST=False)
-        it("recvmsg", S=there)
-        it("sendmsg", S=client, DEST=False)
-    names = it("socket", DOMAIN="PF_INET", TYPE="SOCK_DGRAM")
-    it("sendto", S=names, DEST=True)
-    it("pselect", FDS=[names])
-    it("recvfrom", S=names)
-    it("shutdown", S=client)
-    it("fcntl", FD=there, COMMAND="F_OSETLK")
-    it("write", FD=2)
-    it("exit")
-
-
-def opener(it):
-    """It opens files for a child that may open none, and sends it their descriptors."""
-    one, two = it("socketpair", DOMAIN="PF_LOCAL", TYPE="SOCK_STREAM")
-    child = it.fork()
-    it.close(two)
-    child.close(one)
-    child("sendmsg", S=two, DEST=False)
-    it("recvmsg", S=one)
-    log = it.open("log", "O_RDWR|O_CREAT")
-    other = it.open("other", "O_RDWR|O_CREAT")
-    it("fstat", FD=log)
-    it("sendmsg", S=one, FDS=[log], DEST=False)
-    it.close(log)
-    child("poll", FDS=[two])
-    (got,) = child("recvmsg", S=two)
-    child("fstat", FD=got)
-    child("mmap", PROT="PROT_READ", FLAGS="MAP_SHARED", FD=got)
-    child("lseek", FD=got)
-    child.close(got)
-    it("sendmsg", S=one, FDS=[1, other], DEST=False)
-    first, second = child("recvmsg", S=two)
-    child("read", FD=second)
-    child("write", FD=first)
-    copy = child("dup", FD=second)
-    child("ftruncate", FD=copy)
-    child("kevent", KQ=child("kqueue"), CHANGES=[(second, "EVFILT_VNODE", "EV_ADD")], N=1, M=0)
-    it("fsync", FD=other)
-    child("exit")
-    it("read", FD=0)
-    it("exit")
-
-
-def sender(it):
-    """It sends files of a folder through connections, and copies one."""
-    it("mkdirat", DIR=None, PATH="root")
-    root = it.open("root", "O_RDONLY|O_DIRECTORY")
-    s = it("socket", DOMAIN="PF_INET6", TYPE="SOCK_STREAM")
-    it("bind", S=s)
-    it("listen", S=s)
-    page = it.open("page", "O_RDWR|O_CREAT", root)
-    it("write", FD=page)
-    it.close(page)
-    for _ in range(2):
-        one = it("accept", S=s)
-        it("recvfrom", S=one)
-        it("fstatat", DIR=root, PATH="page")
-        page = it.open("page", at=root)
-        it("fstat", FD=page)
-        it("sendfile", FD=page, S=one)
-        it.close(page, one)
-    page, copy = it.open("page", at=root), it.open("copy", "O_WRONLY|O_CREAT|O_TRUNC", root)
-    if it.program.release > 12:
-        it("copy_file_range", IN=page, INOFF=None, OUT=copy, OUTOFF=4096)
-    it("posix_fallocate", FD=copy)
-    it("futimens", FD=copy)
-    it("extattr_get_fd", FD=page)
-    it("__acl_set_fd", FD=copy)
-    it.close(page, copy)
-    it("getdirentries", FD=root)
-    it("exit")
-
-
-def parent(it):
-    """It begins children that work on a file, and waits for them."""
-    work = it.open("work", "O_RDWR|O_CREAT")
-    read_end, write_end = it("pipe")
-    for _ in range(2):
-        child = it.fork()
-        child.close(read_end)
-        child("flock", FD=work)
-        child("pread", FD=work)
-        child("write", FD=write_end)
-        child("exit")
-        it("read", FD=read_end)
-    it("wait4", PID=-1)
-    it("wait6", PID=-1)
-    pid, process = it("pdfork", FLAGS="0x0")
-    child = Runner(it.program, pid)
-    child("fcntl", FD=work, COMMAND="F_SETLK")
-    child("kill", PID=pid, SIG="0")
-    it("pdgetpid", FD=process)
-    it("poll", FDS=[process, read_end])
-    it("pdkill", FD=process, SIG="SIGTERM")
-    child("exit")
-    it.close(process)
-    last = it.fork()
-    it("kill", PID=last.pid, SIG="SIGTERM")
-    last("writev", FD=write_end)
-    last("exit")
-    it("readv", FD=read_end)
-    it("wait4", PID=last.pid)
-    it("fstat", FD=work)
-    it("exit")
-
-
-WRITTEN = [server, shell, digest, watcher, proxy, opener, sender, parent]
-
-
-def written(make, release):
-    program = Program(release)
-    make(Runner(program))
+            raise AssertionError(f"{line}: {outcome}")
+        names.update(zip((made or "").split(","), outcome.answer if isinstance(outcome.answer, tuple) else [outcome.answer]))
     return program
+
+
+def written_programs():
+    """The name of each written program, and its text."""
+    for part in harness.text_of(WRITTEN).split("\n# ")[1:]:
+        heading, _, text = part.partition("\n")
+        yield heading.partition(":")[0], text.strip()
 
 
 # ---- The traces of programs
 
 
-def load_converter():
-    """contrib/truss2trace.py, to be called by its `main`."""
+@functools.lru_cache(None)
+def converter():
+    """contrib/truss2trace.py, to be called here."""
     sys.dont_write_bytecode = True
-    loader = importlib.machinery.SourceFileLoader("truss2trace", CONVERTER)
-    module = importlib.util.module_from_spec(importlib.util.spec_from_loader("truss2trace", loader))
-    loader.exec_module(module)
-    return module
+    sys.path.append(os.path.join(harness.ROOT, "contrib"))
+    return importlib.import_module("truss2trace")
 
 
-converter = load_converter()
+def called(options, given=""):
+    """What the converter answers, called here."""
+    streams = sys.argv, sys.stdin, sys.stdout, sys.stderr
+    sys.argv = ["truss2trace", *options]
+    sys.stdin = io.TextIOWrapper(io.BytesIO(given.encode("latin-1")))
+    sys.stdout, sys.stderr = io.TextIOWrapper(io.BytesIO()), io.StringIO()
+    try:
+        converter().main()
+    except SystemExit as ended:
+        return harness.Answer(ended.code, sys.stdout.buffer.getvalue().decode("latin-1"), sys.stderr.getvalue())
+    finally:
+        sys.argv, sys.stdin, sys.stdout, sys.stderr = streams
 
 
 def converted(lines, options, most=0):
     """The lines of the trace that the converter makes of a recording, without comments. Its status may be `most`."""
-    streams = sys.argv, sys.stdin, sys.stdout, sys.stderr
-    sys.argv = ["truss2trace", *options]
-    sys.stdin = io.TextIOWrapper(io.BytesIO("".join(lines).encode("latin-1")))
-    sys.stdout, sys.stderr = io.TextIOWrapper(io.BytesIO()), io.StringIO()
-    try:
-        converter.main()
-    except SystemExit as ended:
-        status, out, said = ended.code, sys.stdout.buffer.getvalue().decode("latin-1"), sys.stderr.getvalue()
-    finally:
-        sys.argv, sys.stdin, sys.stdout, sys.stderr = streams
+    status, out, said = called(options, "".join(lines))
     if status > most:
         raise AssertionError(f"{options}: {said}")
     return [line for line in out.splitlines() if line[:1] not in ("#", "")]
@@ -1375,10 +991,9 @@ def parted(lines):
     for line in lines:
         mark = re.match(r"[0-9]+ utrace\((0x[0-9a-f]+)", line)
         if mark:
-            at = int(mark[1], 16)
-            parts[at] = []
+            parts[int(mark[1], 16)] = []
         else:
-            parts[at if len(parts) > 1 else -1].append(line)
+            parts[next(reversed(parts))].append(line)
     return parts
 
 
@@ -1397,35 +1012,22 @@ def places_of(program, options):
 
 # ---- The limits of a trace
 
-PROGRAM = os.path.abspath(sys.argv[1]) if len(sys.argv) == 2 else None
-FOLDER = tempfile.TemporaryDirectory()
-TRACE = os.path.join(FOLDER.name, "trace")
 
-
-def write_trace(lines):
-    with open(TRACE, "w", encoding="latin-1") as file:
-        file.writelines(line + "\n" for line in lines)
-
-
-def asked(words):
-    """What the program answers."""
-    done = subprocess.run([PROGRAM, *words], capture_output=True, timeout=600)
-    return done.stdout.decode("latin-1")
+def asked(lines, command, *words):
+    """What the program answers to a command about a trace."""
+    return harness.capcheck(command, harness.save("trace", "".join(line + "\n" for line in lines)), *words).out
 
 
 def steps_of(script):
     """The steps that a script of limits says, each with its position in the trace."""
-    for at, pid, call, words in re.findall(r"^insert ([0-9]+) ([0-9]+) (\w+)\((.*)\) RET 0$", script, re.M):
-        fd, _, rights = words.partition(",")
-        names = [] if rights == "NONE" else [name.removeprefix("CAP_") for name in rights.split("|")]
-        held = EVERY if rights == "ALL" else frozenset(names)
-        yield int(at), Step(int(pid), call, {"FD": int(fd), "RIGHTS": held} if words else {})
+    for at, line in re.findall(r"^insert ([0-9]+) (.*)$", script, re.M):
+        pid, call, given, _ = reference.read(line)
+        yield int(at), Step(pid, call, dict(zip(("FD", "RIGHTS"), given)))
 
 
 def difference(program, more, kept):
-    """The first step that answers other than it did, with more steps before some; None where all answer as they did.
-    What failed may be refused, but for the errnos that are kept where capability mode doesn't forbid the call. A limit
-    may not be refused."""
+    """The first step that answers other than it did, with more steps before some; nothing where all answer as they did. What failed may
+    be refused, but for the errnos that are kept where capability mode doesn't forbid the call. A limit may not be refused."""
     for at, step, after in program.again(more):
         if at is None and after.errno == NOT_CAPABLE:
             return f"{step} is refused"
@@ -1433,31 +1035,18 @@ def difference(program, more, kept):
         is_kept = before.errno in (None, IN_PROGRESS) or before.errno in kept and not program.kernel.forbidden[at]
         if before != after and is_kept:
             return f"{step} answers {after}, and did answer {before}"
-    return None
-
-
-class Totals:
-    """How often limits were put into a program, how often something was refused then, and how often that was wrong."""
-
-    def __init__(self):
-        self.asked = self.refused = self.plain_asked = self.plain_refused = self.wrong = 0
-
-    def fault(self, *what):
-        self.wrong += 1
-        if self.wrong <= MOST_SHOWN:
-            print(*what, sep="\n")
+    return ""
 
 
 def ask(program, options, profile, kept, only):
-    """For each line of the program's trace, and for none: the first step that differs with the program's limits. Where
-    a path leaves its directory, not just behind what made that: only the line @foreign there keeps it from a limit.
-    `only` may be the place of the one step that is asked about."""
+    """For each line of the program's trace, and for none: the first step that differs with the program's limits. Where a path leaves its
+    directory, not just behind what made that: only the line @foreign there keeps it from a limit. `only` may be the place of the one step
+    that is asked about."""
     lines, places = places_of(program, options)
     stays = not any(leaves(str(value)) for step in program.steps for word, value in step.args.items() if word in QUOTED)
-    write_trace(lines)
     last = max((at for at, (place, _) in enumerate(places, 1) if place == only), default=None)
     for at in range(len(lines) + 1) if only is None else [last]:
-        script = asked(["limits", TRACE, *([str(at)] if at else []), "--profile", profile])
+        script = asked(lines, "limits", *([str(at)] if at else []), "--profile", profile)
         more = collections.defaultdict(list)
         for position, step in steps_of(script):
             more[places[at - 1][0] if at else places[position - 2][1]].append(step)
@@ -1465,83 +1054,47 @@ def ask(program, options, profile, kept, only):
             yield at, lines, script, difference(program, more, kept)
 
 
-def check_limits(totals, name, program, options, kept=(), only=None):
-    """Puts in the limits for each line of a program's trace. Profile 1 forgets descriptors at an exec, and keeps them
-    at a closefrom."""
-    profile = "2" if program.has("execve", "fexecve", "closefrom", "close_range") else str(1 + len(program.steps) % 2)
-    for at, lines, script, found in ask(program, options, profile, kept, only):
-        if "--plain" in options:
-            totals.plain_asked += 1
-            totals.plain_refused += found is not None
-            continue
-        totals.asked += 1
-        if found:
-            totals.refused += 1
-            trace = "\n".join(f"{number:5d} {line}" for number, line in enumerate(lines, 1))
-            totals.fault(f"{name}, {' '.join(options)}, profile {profile}, line {at}: {found}", script + trace)
+def hiding_program(number):
+    """A random program, which every second time begins with descriptors that nobody knows, and the converter's options, which may name
+    another release."""
+    chance, releases, held = harness.rng(f"hiding program {number}"), sorted(RELEASES), None
+    release, named_release = releases[number // 2 % 4], releases[number // 8 % 4]
+    if number % 2:
+        held = {fd: ("file", reference.all_of(right for right in reference.RIGHTS if chance.random() < 0.7)) for fd in range(3)}
+    program = Hider(chance, release, held).written(chance.randrange(100))
+    return f"hiding program {number} on {release}", program, options_of(named_release, not held)
 
 
-def check_findings(totals, programs, most):
-    """That the program finds nothing in the traces of programs, each with its name and the converter's options."""
-    lines, begins = [], []
-    for name, program, options in programs:
-        begins.append((len(lines), name))
-        lines += converted(program.lines(), options, most)
-    write_trace(lines)
-    for profile in ("1", "2"):
-        for finding in asked(["check", TRACE, "--profile", profile]).splitlines()[:-1]:
-            at = int(finding.split(" ")[0])
-            first, name = [each for each in begins if each[0] < at][-1]
-            totals.fault(f"{name}, profile {profile}: {finding}", *lines[first:at])
-
-
-def hiding_program(seed):
-    """A random program, which every second time begins with descriptors that nobody knows, and the converter's options,
-    which may name another release."""
-    chance, releases, held = random.Random(seed), sorted(RELEASES), None
-    release, named_release = releases[seed // 2 % 4], releases[seed // 8 % 4]
-    if seed % 2:
-        held = {fd: ("file", closed_under([right for right in ALL if chance.random() < 0.7])) for fd in range(3)}
-    program = random_program(Hider(chance, release, held), chance.randrange(100))
-    return f"hiding program {seed} on {release}", program, options_of(named_release, not held)
-
-
-def open_program(seed, release):
-    """A random program that a recording shows, calm from some step on. One of four looks up paths that leave their
-    directory."""
-    chance = random.Random(seed)
+def open_program(number, release):
+    """A random program that a recording shows, calm from some step on. One of four looks up paths that leave their directory."""
+    chance = harness.rng(f"open program {number} on {release}")
     author, length = Author(chance, release), chance.randrange(10, 60)
-    author.stays = seed % 4 != 2
-    return random_program(author, length, chance.randrange(length))
+    author.stays, author.is_told = number % 4 != 2, True
+    return author.written(length, chance.randrange(length))
 
 
-def single_program(call, seed, release):
-    """A program that makes a call of the table when it has a descriptor of each kind, limited so that a trace knows it,
-    and a child that ended; and the place of that call, and whether it succeeds."""
-    author = Author(random.Random(f"{call} {seed} {release}"), release)
+def single_program(call, number, release):
+    """A program that makes a call of the table when it has a descriptor of each kind, limited so that a trace knows it, and a child that
+    ended; and the place of that call, and whether it succeeds."""
+    author = Author(harness.rng(f"{call} {number} {release}"), release)
     author.do(100, "openat", DIR=None, PATH="d", FLAGS="O_RDONLY|O_DIRECTORY")
     author.do(author.do(100, "fork").answer, "exit")
     for kind, (name, args) in MAKERS.items():
         author.do(100, name, **args)
         if kind not in KNOWN:
-            author.do(100, "cap_rights_limit", FD=max(author.kernel.processes[100].table), RIGHTS=EVERY)
+            author.do(100, "cap_rights_limit", FD=max(author.kernel.processes[100].table), RIGHTS=ALL)
     place = len(author.program.steps)
-    outcome = author.do(100, call, IN_PROGRESS if call == "connect" and seed else None, **author.arguments(100, call))
-    author.end()
-    return author.program, place, outcome and outcome.errno in (None, IN_PROGRESS)
+    outcome = author.do(100, call, IN_PROGRESS if call == "connect" and number else None, **author.arguments(100, call))
+    return author.ended(), place, outcome and outcome.errno in (None, IN_PROGRESS)
 
 
 def single_programs(release):
     """For each call of the table, programs in which it succeeds: more than one where its needs depend on arguments."""
-    for call in (*itertools.chain(*CALLS[release]), "wait4", "wait6", "pdfork", "socketpair"):
-        wanted = VARIANTS if depends(TABLES[release][0][call]) else 1
-        for seed in range(MOST_TRIED):
-            program, place, succeeds = single_program(call, seed, release)
-            if succeeds:
-                yield f"single program {call} {seed} on {release}", program, place
-                wanted -= 1
-            if not wanted:
-                break
+    for call in (*itertools.chain(*calls_of(release)), "wait4", "wait6", "pdfork", "socketpair"):
+        tried = ((number, *single_program(call, number, release)) for number in range(MOST_TRIED))
+        found = ((number, program, place) for number, program, place, succeeds in tried if succeeds)
+        for number, program, place in itertools.islice(found, VARIANTS if depends(table_of(release)[0][call]) else 1):
+            yield f"{call} {number} on {release}", program, place
 
 
 def depends(rows):
@@ -1554,37 +1107,118 @@ def options_of(release, is_begun=True):
     return ["--kernel", str(release), *(["--start", "0,1,2"] if is_begun else [])]
 
 
-def main():
-    if not PROGRAM:
-        sys.exit(__doc__.strip())
-    totals = Totals()
-    check_findings(totals, [hiding_program(seed) for seed in range(HIDING)], 1)
-    programs = []
-    for release in RELEASES:
-        options = options_of(release)
-        for make in WRITTEN:
-            name, program = f"{make.__name__} on {release}", written(make, release)
-            programs.append((name, program, options))
-            check_limits(totals, name, program, options)
-            check_limits(totals, name, program, [*options, "--failed"], AFTER_RIGHTS)
-            check_limits(totals, name, program, [*options[2:], "--plain"])
-        for seed in range(ASKING):
-            name, program = f"open program {seed} on {release}", open_program(seed, release)
-            programs.append((name, program, options))
-            words = [*options_of(release, seed % 4 != 1), *(["--failed"] if seed % 4 == 3 else [])]
-            check_limits(totals, name, program, words, AFTER_RIGHTS if seed % 4 == 3 else ())
-        for name, program, place in single_programs(release):
-            programs.append((name, program, options))
-            check_limits(totals, name, program, options, only=place)
-    check_findings(totals, programs, 0)
-    if not totals.plain_refused:
-        totals.fault("with --plain nothing is refused: these runs show nothing")
-    count = HIDING + len(programs)
-    plain = f"with --plain {totals.plain_refused:,} of {totals.plain_asked:,}"
-    print(f"limits put in {totals.asked:,} times: refused {totals.refused:,}; {plain}")
-    print(f"{count:,} programs: {'all passed' if not totals.wrong else f'{totals.wrong} answers differ'}")
-    sys.exit(1 if totals.wrong else 0)
+# ---- The tests
 
 
-if __name__ == "__main__":
-    main()
+class Programs:
+    """Programs of a class, and what the program must say of them. `release` is the kernel's."""
+
+    is_long = True
+
+    def limit(self, name, program, options, kept=(), only=None):
+        """Puts in the limits for each line of a program's trace, and answers how often something was refused. Profile 1 forgets
+        descriptors at an exec, and keeps them at a closefrom."""
+        profile = "2" if program.has(*EXECS, "closefrom", "close_range") else str(1 + len(program.steps) % 2)
+        refused = 0
+        for at, lines, script, found in ask(program, options, profile, kept, only):
+            refused += found != ""
+            if "--plain" in options:
+                harness.tried["limits put in after --plain"] += 1
+                harness.tried["limits refused after --plain"] += found != ""
+                continue
+            what = f"{name}, truss2trace {' '.join(options)}, capcheck limits {at or ''} --profile {profile}"
+            trace = "".join(f"\n{number:5d} {line}" for number, line in enumerate(lines, 1)) if found else ""
+            self.same(what, "", found and f"{found}\n{script}{trace}", "limits put in")
+        return refused
+
+    def find_nothing(self, programs, most=0):
+        """The program finds nothing in the traces of programs, each with its name and the converter's options."""
+        traces = [(name, converted(program.lines(), options, most)) for name, program, options in programs]
+        lines = [line for _, trace in traces for line in trace]
+        for profile in ("1", "2"):
+            findings, first = [int(it.split(" ")[0]) for it in asked(lines, "check", "--profile", profile).splitlines()[:-1]], 0
+            for name, trace in traces:
+                found = {at - first for at in findings if first < at <= first + len(trace)}
+                self.same(f"{name}, capcheck check --profile {profile}", (), tuple(trace[: max(found)]) if found else (), "findings of programs")
+                first += len(trace)
+        harness.tried["programs"] += len(traces)
+
+
+class Hiding(Programs):
+    def test_findings(self):
+        self.find_nothing([hiding_program(number) for number in range(self.first, self.first + HIDING)], 1)
+
+
+class Shown(Programs):
+    def test_written(self):
+        options, refused, programs = options_of(self.release), 0, []
+        for name, text in written_programs():
+            programs.append((f"{name} on {self.release}", written(text, self.release), options))
+            self.limit(*programs[-1])
+            self.limit(*programs[-1][:2], [*options, "--failed"], AFTER_RIGHTS)
+            refused += self.limit(*programs[-1][:2], [*options[2:], "--plain"])
+        self.assertTrue(refused, "with --plain nothing is refused: these runs show nothing")
+        self.find_nothing(programs)
+
+    def test_random(self):
+        programs = [(f"open program {number} on {self.release}", open_program(number, self.release)) for number in range(ASKING)]
+        for number, (name, program) in enumerate(programs):
+            words = [*options_of(self.release, number % 4 != 1), *(["--failed"] if number % 4 == 3 else [])]
+            self.limit(name, program, words, AFTER_RIGHTS if number % 4 == 3 else ())
+        self.find_nothing([(*each, options_of(self.release)) for each in programs])
+
+
+class Single(Programs):
+    def test_calls(self):
+        programs = [(name, program, options_of(self.release), place) for name, program, place in single_programs(self.release)]
+        for *program, place in programs:
+            self.limit(*program, only=place)
+        self.find_nothing([program[:3] for program in programs])
+
+
+class Hiding1(Hiding, harness.Test):
+    first = 0
+
+
+class Hiding2(Hiding, harness.Test):
+    first = HIDING
+
+
+class Hiding3(Hiding, harness.Test):
+    first = 2 * HIDING
+
+
+class Hiding4(Hiding, harness.Test):
+    first = 3 * HIDING
+
+
+class Shown12(Shown, harness.Test):
+    release = 12
+
+
+class Shown13(Shown, harness.Test):
+    release = 13
+
+
+class Shown14(Shown, harness.Test):
+    release = 14
+
+
+class Shown15(Shown, harness.Test):
+    release = 15
+
+
+class Single12(Single, harness.Test):
+    release = 12
+
+
+class Single13(Single, harness.Test):
+    release = 13
+
+
+class Single14(Single, harness.Test):
+    release = 14
+
+
+class Single15(Single, harness.Test):
+    release = 15

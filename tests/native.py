@@ -1,10 +1,9 @@
-#!/usr/bin/env python3
-"""The program linked by packaging/system.c, on Linux and for FreeBSD: tests/native.py PROGRAM [OBJECT [all]]
+"""The program linked by packaging/system.c, on Linux and for FreeBSD.
 
-OBJECT is that of PROGRAM, by default the one that its build leaves. It is linked
+OBJECT, in the environment, names the program's object, by default the one of the last build. It is linked
 
-- by `cc`: the scripts that try system.c most run on it, or by `all` every one that runs on PROGRAM;
-- by `cc -static`: every script runs on it that doesn't need to load something into the program;
+- by `cc`: the tests that try system.c most run on it, or where LINKED is `all` every one that runs on the program;
+- by `cc -static`: every test runs on it that doesn't load something into the program;
 - by `cc` with sanitizers, which find nothing;
 - as a static program for FreeBSD, with tests/freebsd/libc.c as its C library. It runs under tests/freebsd/translate.c,
   by FreeBSD's numbers of calls, flags and errors: devices that fail, worked traces, talks, examples and random traces.
@@ -21,33 +20,38 @@ import gzip
 import os
 import re
 import shutil
-import subprocess
 import sys
-import tempfile
-import time
+import unittest
 
 import compiler
 import failing_devices
+import harness
+from archives import path_of_object
+from harness import HERE, ROOT
 
-HERE = os.path.dirname(os.path.abspath(__file__))
-ROOT = os.path.dirname(HERE)
 PACKAGING = f"{ROOT}/packaging"
 sys.path.append(PACKAGING)
 
 import elf
 
+# The words for tests/run.py on each program that is linked: names of modules, of cases by their files, and of classes.
+WORKED = "checks. denials. edits. explain. full. limits. lines. markers. profiles. said. starts. words."
+OF_SYSTEM = "talks. failing_devices. examples. README docs/"
+TESTS = {
+    "dynamic": f"{OF_SYSTEM} out_of_memory. allocation_counts.",
+    "static": "!compare.Second !compare.Third !compare.Fourth",
+    "sanitized": OF_SYSTEM,
+    "freebsd": f"{WORKED} talks. examples. README docs/ compare.First",
+}
+SYSTEM_C = f"{PACKAGING}/system.c"
 WARNINGS = ["-O2", "-Wall", "-Wextra", "-Wpedantic", "-Werror"]
-LOADING = ("out_of_memory.py", "allocation_counts.py")
-OF_SYSTEM = ("examples.sh", "talks.py", "failing_devices.py")
-NOT_OF_PROGRAM = ("lint.py", "wrong_bodies_fit.py", "documents.py", "missing_programs.py", "native.py", "archives.py")
 SANITIZED = ["-fsanitize=address,undefined", "-fno-sanitize-recover=all"]
 FOR_FREEBSD = """--target=x86_64-unknown-freebsd13 -march=x86-64 -O2 -Wall -Wextra -Werror
     -ffreestanding -fno-builtin -fno-stack-protector -nostdinc""".split()
 # What a control changes in system.c, and the rows of tests/failing_devices.py that are then broken.
-CONTROLS = (
-    ("flags", "return open(path, O_RDONLY | O_CLOEXEC | O_NOCTTY);", "return open(path, flags);", {"a link"}),
-    (
-        "errno",
+CONTROLS = {
+    "flags": ("return open(path, O_RDONLY | O_CLOEXEC | O_NOCTTY);", "return open(path, flags);", {"a link"}),
+    "errno": (
         "return errno_of_object(errno);",
         "return (void)errno_of_object, errno;",
         {
@@ -56,7 +60,7 @@ CONTROLS = (
             "a report too long for a datagram",
         },
     ),
-)  # fmt: skip
+}  # fmt: skip
 # What an object for x86-64-v2 looks for: in word 6 of the answer at index 0, and at index 2; and Linux's names of them.
 FEATURES = {0: {"pni": 0, "ssse3": 9, "cx16": 13, "sse4_1": 19, "sse4_2": 20, "popcnt": 23}, 2: {"lahf_lm": 0}}
 ASKS = """#include <inttypes.h>
@@ -69,100 +73,13 @@ int32_t capcheck_main(void)
     return 0;
 }
 """
-left_out = []
 
 
-def others():
-    """The scripts of the gate that run on the program, but for those above."""
-    with open(f"{ROOT}/Makefile", encoding="utf-8") as file:
-        lines = re.findall(r"^SCRIPTS \+?= *((?:.*\\\n)*.*)$", file.read(), re.M)
-    scripts = [os.path.basename(it) for it in " ".join(lines).split() if it != "\\"]
-    if not {*LOADING, *OF_SYSTEM, *NOT_OF_PROGRAM, "rows.py"} <= {*scripts}:
-        sys.exit("tests/native.py and the Makefile have other scripts")
-    return [it for it in scripts if it not in (*LOADING, *OF_SYSTEM, *NOT_OF_PROGRAM)]
-
-
-def run(script, program, *words):
-    """Runs a script on a program. It ends this one where it fails."""
-    began, name = time.monotonic(), f"{os.path.basename(program)}, {script}"
-    how = {"stdin": subprocess.DEVNULL, "stdout": subprocess.PIPE, "stderr": subprocess.STDOUT, "text": True}
-    done = subprocess.run([f"{HERE}/{script}", program, *words], **how)
-    lines = done.stdout.splitlines() or [""]
-    print(f"{name}: {lines[-1]} ({time.monotonic() - began:.0f} s)", flush=True)
-    if done.returncode:
-        sys.exit("\n".join([*lines[-40:], f"{name} FAILED"]))
-    left_out.extend(name + line.removeprefix("left out") for line in lines if line.startswith("left out"))
-
-
-def built(words, to, folder):
-    """Runs a compiler or a linker."""
-    subprocess.run([*words, "-o", to], check=True, cwd=folder)
-    return f"{folder}/{to}"
-
-
-def on_linux(cc, is_all, folder):
-    """The links on Linux, and what runs on each."""
-    sources = ["capcheck.o", f"{PACKAGING}/system.c"]
-    for strict in [cc, *([["clang"]] if shutil.which("clang") else [])]:
-        for standard in ("c99", "c11"):
-            built([*strict, *WARNINGS, f"-std={standard}", "-c", sources[1]], "system.o", folder)
-    dynamic = built([*cc, *WARNINGS, *sources], "dynamic", folder)
-    for script in [*OF_SYSTEM, *LOADING, *(others() if is_all else ())]:
-        run(script, dynamic)
-    try:
-        static = built([*cc, *WARNINGS, "-static", *sources], "static", folder)
-    except subprocess.CalledProcessError:
-        left_out.append("the static program: cc -static links none here")
-    else:
-        for script in [*OF_SYSTEM, *others()]:
-            run(script, static, *(["1", "100"] if script == "compare.py" and not is_all else []))
-    try:
-        sanitized = built([*cc, *WARNINGS, *SANITIZED, *sources], "sanitized", folder)
-    except subprocess.CalledProcessError:
-        left_out.append("the sanitizers: cc has none here")
-    else:
-        for script in OF_SYSTEM:
-            run(script, sanitized)
-
-
-def features(cc, folder):
-    """That capcheck_cpuid answers what Linux says of the processor, and nothing of features above x86-64-v2."""
-    with open(f"{folder}/asks.c", "w", encoding="utf-8") as file:
-        file.write(ASKS)
-    asks = built([*cc, "asks.c", f"{PACKAGING}/system.c"], "asks", folder)
-    answers = [int(line) for line in subprocess.run([asks], stdout=subprocess.PIPE, check=True, text=True).stdout.split()]
-    with open("/proc/cpuinfo", encoding="utf-8") as file:
-        flags = re.search(r"^flags\s*: (.*)$", file.read(), re.M)[1].split()
-    wanted = {name: name in flags for names in FEATURES.values() for name in names}
-    got = {name: bool(answers[index] >> bit & 1) for index, names in FEATURES.items() for name, bit in names.items()}
-    if wanted != got or answers[1] or answers[3]:
-        sys.exit(f"capcheck_cpuid answers {answers}, and Linux says {wanted}")
-    print(f"{len(wanted)} features of the processor: as Linux has them", flush=True)
-
-
-def lacks_features(cc, folder):
-    """That an object for x86-64-v2 ends on a processor without its features, and says why. Other objects don't ask."""
-    it = elf.read(f"{folder}/capcheck.o")
-    if "capcheck_cpuid" not in {it.name(symbol) for symbol in it.symbols}:
-        left_out.append("a processor without the features of x86-64-v2, for which this object doesn't ask")
-        return
-    source = spoilt("features", "if (index == 0 || index == 2)", "if (index != index)", folder)
-    program = built([*cc, "capcheck.o", source], "old-processor", folder)
-    done = subprocess.run([program, "--version"], capture_output=True, text=True)
-    if done.returncode != 127 or "x86-64-v2" not in done.stderr:
-        sys.exit(f"a processor without the features of x86-64-v2: {done}")
-    print("a processor without the features of x86-64-v2: status 127, and why", flush=True)
-
-
-def spoilt(name, old, new, folder):
+def spoilt(name, old, new):
     """A copy of system.c with other code in one place."""
-    with open(f"{PACKAGING}/system.c", encoding="utf-8") as file:
-        text = file.read()
-    if text.count(old) != 1:
-        sys.exit(f"the control of {name} doesn't fit packaging/system.c")
-    with open(f"{folder}/{name}.c", "w", encoding="utf-8") as out:
-        out.write(text.replace(old, new))
-    return f"{folder}/{name}.c"
+    text = harness.text_of(SYSTEM_C)
+    assert text.count(old) == 1, f"the control of {name} doesn't fit packaging/system.c"
+    return os.path.abspath(harness.save(f"{name}.c", text.replace(old, new).encode()))
 
 
 def clang_and_linker():
@@ -173,93 +90,141 @@ def clang_and_linker():
     return (clang, linker) if clang and linker else None
 
 
-def headers(folder):
-    """A folder in which each header that system.c includes is tests/freebsd/libc.h."""
-    os.makedirs(f"{folder}/headers", exist_ok=True)
-    with open(f"{PACKAGING}/system.c", encoding="utf-8") as file:
-        names = re.findall(r"^#include <(\w+\.h)>$", file.read(), re.M)
-    for name in names:
-        with open(f"{folder}/headers/{name}", "w", encoding="utf-8") as out:
-            out.write(f'#include "{HERE}/freebsd/libc.h"\n')
-    return f"{folder}/headers"
+class Linked(harness.Test):
+    """What the classes below have: the object, as packaging/ renames what it has."""
+
+    is_long, of_program = True, False
+
+    @classmethod
+    def setUpClass(cls):
+        super().setUpClass()
+        cls.cc, kept = compiler.with_headers(), path_of_object()
+        if not cls.cc:
+            harness.left_out.append("packaging/system.c and each program that it links, since no C compiler here has headers")
+            raise unittest.SkipTest
+        os.chmod(".", 0o755)  # tests/failing_devices.py runs a program as another user
+        for word in ("rename", "same"):
+            done = harness.run([f"{PACKAGING}/elf.py", word, kept, "capcheck.o"])
+            assert done.status == 0, f"elf.py {word}: {done}"
+
+    def built(self, to, *words):
+        """What a compiler or a linker makes."""
+        done = harness.run([*words, "-o", to])
+        self.assertEqual(0, done.status, f"{' '.join(words)}: {done.said}")
+        return os.path.abspath(to)
+
+    def try_linked(self, name, *flags):
+        """Links the program with these flags, and runs tests on it. One that isn't dynamic is left out where it can't be linked."""
+        words = [*self.cc, *WARNINGS, *flags, "capcheck.o", SYSTEM_C]
+        if flags and harness.run([*words, "-o", name]).status:
+            harness.left_out.append(f"the {name} program: cc {flags[0]} links none here")
+            return
+        program, is_all = self.built(name, *words), os.environ.get("LINKED") == "all" and name != "sanitized"
+        self.run_tests(program, "" if is_all else TESTS[name])
+
+    def run_tests(self, program, names, **env):
+        """Runs tests with these in their names on another program."""
+        words = [word for name in names.split() for word in ("-k", name)]
+        words = [f"{HERE}/run.py", program, "--of-program", "--seed", str(harness.seed()), *words]
+        how = {"stdin": harness.DEVNULL, "stderr": harness.STDOUT, "timeout": None, "encoding": "utf-8", "env": {**os.environ, **env}}
+        done, name = harness.run([sys.executable, *words], **how), os.path.basename(program)
+        harness.left_out.extend(f"{name}, {why}" for why in re.findall(r"^left out: (.*)$", done.out, re.M))
+        self.assertEqual(0, done.status, f"{' '.join(words)}:\n{done.out[-6000:]}")
+        tried = re.findall(r"(\d[\d,]*) [a-z]", re.search(r"^tried: .*$", done.out, re.M)[0])
+        harness.tried[f"things on the {name} program"] += sum(int(number.replace(",", "")) for number in tried)
 
 
-def for_freebsd(tools, cc, name, source, folder):
-    """A program for FreeBSD, and what runs it."""
-    clang, linker = tools
-    words = [clang, *FOR_FREEBSD, "-isystem", headers(folder), "-c"]
-    parts = [built([*words, it], f"{name}-{at}.o", folder) for at, it in enumerate([f"{HERE}/freebsd/libc.c", source])]
-    words = [linker, "-m", "elf_x86_64_fbsd", "-static", "--fatal-warnings", parts[0], "capcheck.o", parts[1]]
-    made = built(words, f"{name}.elf", folder)
-    with open(made, "rb") as file:
-        if file.read(8)[7] != 9:
-            sys.exit(f"{made} isn't marked as a program for FreeBSD")
-    return built([*cc, *WARNINGS, f'-DPROGRAM="{made}"', f"{HERE}/freebsd/translate.c"], name, folder)
+class Dynamic(Linked):
+    def test_warnings(self):
+        for strict in [self.cc, *([["clang"]] if shutil.which("clang") else [])]:
+            for standard in ("c99", "c11"):
+                self.built("system.o", *strict, *WARNINGS, f"-std={standard}", "-c", SYSTEM_C)
+                harness.tried["compilations without a warning"] += 1
+
+    def test_dynamic(self):
+        self.try_linked("dynamic")
 
 
-def on_freebsd(cc, folder):
-    """The program for FreeBSD, and the controls."""
-    tools = clang_and_linker()
-    if not tools:
-        left_out.append("the program for FreeBSD: there is no clang with ld.lld")
-        return
-    program = for_freebsd(tools, cc, "freebsd", f"{PACKAGING}/system.c", folder)
-    if subprocess.run([program, "--version"], stdout=subprocess.DEVNULL).returncode == 98:
-        left_out.append("the program for FreeBSD: no process may be traced here")
-        return
-    run("failing_devices.py", program, "--freebsd")
-    for script in ("rows.py", "talks.py", "examples.sh"):
-        run(script, program)
-    run("compare.py", program, "1", "40")
-    for name, old, new, wanted in CONTROLS:
-        program = for_freebsd(tools, cc, f"without-{name}", spoilt(name, old, new, folder), folder)
-        broken = set(failing_devices.broken(program, failing_devices.of_freebsd()))
-        if broken != wanted:
-            sys.exit(f"without the translation of {name} these rows are broken: {broken}\nin place of these: {wanted}")
-        print(f"without the translation of {name}: told wrongly {len(broken)}, as it must be", flush=True)
+class Static(Linked):
+    def test_static(self):
+        self.try_linked("static", "-static")
 
 
-def errors_of_manual():
-    """That tests/freebsd/errors.h has what FreeBSD's intro(2) says."""
-    pages = glob.glob("/usr/share/man/man2/intro.2freebsd.gz") or glob.glob("/usr/share/man/man2/intro.2.gz")
-    text = ""
-    for page in pages:
-        with gzip.open(page, "rt", encoding="utf-8", errors="replace") as file:
-            text = file.read()
-    listed = re.findall(r'^\.It Er (\d+) (E\w+) Em "?(?:\\&)?(.*?)"? ?\.?$', text, re.M)
-    if not listed:
-        left_out.append("the errors of FreeBSD: its intro(2) isn't installed")
-        return
-    wanted = {name: (int(number), said) for number, name, said in listed}
-    got = {name: (abs(number), said) for name, (number, said) in failing_devices.of_freebsd().items()}
-    if wanted != got:
-        sys.exit(f"tests/freebsd/errors.h and intro(2) differ: {sorted(wanted.items() ^ got.items())}")
-    print(f"{len(got)} errors of FreeBSD: as its intro(2) has them", flush=True)
+class Sanitized(Linked):
+    def test_sanitized(self):
+        self.try_linked("sanitized", *SANITIZED)
 
 
-def main():
-    words = sys.argv[1:]
-    if not 1 <= len(words) <= 3 or words[2:] not in ([], ["all"]):
-        print(__doc__.strip(), file=sys.stderr)
-        sys.exit(2)
-    kept = os.path.abspath(words[1]) if words[1:] else f"{ROOT}/crates/capcheck/out/capcheck.o"
-    cc = compiler.with_headers()
-    if not cc:
-        print("left out: packaging/system.c and each program that it links, since no C compiler here has headers")
-        return
-    if not os.path.exists(kept):
-        sys.exit(f"tests/native.py needs the object of the program, and there is no {kept}")
-    with tempfile.TemporaryDirectory() as folder:
-        os.chmod(folder, 0o755)  # tests/failing_devices.py runs a program as another user
-        subprocess.run([f"{PACKAGING}/elf.py", "rename", kept, f"{folder}/capcheck.o"], check=True)
-        subprocess.run([f"{PACKAGING}/elf.py", "same", kept, f"{folder}/capcheck.o"], check=True)
-        errors_of_manual()
-        features(cc, folder)
-        lacks_features(cc, folder)
-        on_freebsd(cc, folder)
-        on_linux(cc, bool(words[2:]), folder)
-    print(*[f"left out: {it}\n" for it in left_out], sep="", end="")
-    print("the object by packaging/system.c, on Linux and for FreeBSD: as PROGRAM")
+class Processor(Linked):
+    def test_features(self):
+        """That capcheck_cpuid answers what Linux says of the processor, and nothing of features above x86-64-v2."""
+        asks = self.built("asks", *self.cc, harness.save("asks.c", ASKS), SYSTEM_C)
+        answers = [int(line) for line in harness.run([asks]).out.split()]
+        flags = re.search(r"^flags\s*: (.*)$", harness.text_of("/proc/cpuinfo"), re.M)[1].split()
+        for index, names in FEATURES.items():
+            for name, bit in names.items():
+                self.same(f"the processor has {name}", name in flags, bool(answers[index] >> bit & 1), "features of the processor")
+        self.same("features above x86-64-v2", (0, 0), (answers[1], answers[3]))
+
+    def test_lacking_features(self):
+        """That an object for x86-64-v2 ends on a processor without its features, and says why. Other objects don't ask."""
+        it = elf.read("capcheck.o")
+        if "capcheck_cpuid" not in {it.name(symbol) for symbol in it.symbols}:
+            harness.left_out.append("a processor without the features of x86-64-v2, for which this object doesn't ask")
+            return
+        source = spoilt("features", "if (index == 0 || index == 2)", "if (index != index)")
+        done = harness.run([self.built("old-processor", *self.cc, "capcheck.o", source), "--version"])
+        self.same("a processor without the features of x86-64-v2", (127, True), (done.status, "x86-64-v2" in done.said))
 
 
-main()
+class FreeBSD(Linked):
+    def for_freebsd(self, name, source):
+        """A program for FreeBSD, and what runs it."""
+        clang, linker = clang_and_linker()
+        for header in re.findall(r"^#include <(\w+\.h)>$", harness.text_of(SYSTEM_C), re.M):
+            harness.save(f"headers/{header}", f'#include "{HERE}/freebsd/libc.h"\n')
+        words = [clang, *FOR_FREEBSD, "-isystem", "headers", "-c"]
+        library, system = (self.built(f"{name}-{part}.o", *words, it) for part, it in (("libc", f"{HERE}/freebsd/libc.c"), ("system", source)))
+        made = self.built(f"{name}.elf", linker, "-m", "elf_x86_64_fbsd", "-static", "--fatal-warnings", library, "capcheck.o", system)
+        with open(made, "rb") as file:
+            self.assertEqual(9, file.read(8)[7], f"{made} isn't marked as a program for FreeBSD")
+        return self.built(name, *self.cc, *WARNINGS, f'-DPROGRAM="{made}"', f"{HERE}/freebsd/translate.c")
+
+    def program(self):
+        """The program for FreeBSD, or nothing where it can't run."""
+        if not clang_and_linker():
+            harness.left_out.append("the program for FreeBSD: there is no clang with ld.lld")
+        elif harness.run([made := self.for_freebsd("freebsd", SYSTEM_C), "--version"]).status == 98:
+            harness.left_out.append("the program for FreeBSD: no process may be traced here")
+        else:
+            return made
+
+    def test_freebsd(self):
+        if program := self.program():
+            self.run_tests(program, "failing_devices.", SYSTEM="FreeBSD")
+            self.run_tests(program, TESTS["freebsd"])
+
+    def test_controls(self):
+        """Without a translation, the rows that rest on it break, and no other."""
+        for name, (old, new, wanted) in CONTROLS.items() if self.program() else ():
+            program = self.for_freebsd(f"without-{name}", spoilt(name, old, new))
+            os.makedirs(f"{self.folder}/rows-{name}")
+            os.chdir(f"{self.folder}/rows-{name}")
+            rows = failing_devices.answers(failing_devices.prepare(program), failing_devices.of_freebsd())
+            broken = {row for row, _, _, is_right in rows if not is_right}
+            os.chdir(self.folder)
+            self.same(f"rows that are broken without the translation of {name}", sorted(wanted), sorted(broken), "controls")
+
+    def test_errors_of_manual(self):
+        """That tests/freebsd/errors.h has what FreeBSD's intro(2) says."""
+        pages = glob.glob("/usr/share/man/man2/intro.2freebsd.gz") or glob.glob("/usr/share/man/man2/intro.2.gz")
+        text = ""
+        for page in pages:
+            with gzip.open(page, "rt", encoding="utf-8", errors="replace") as file:
+                text = file.read()
+        wanted = {name: (int(number), said) for number, name, said in re.findall(r'^\.It Er (\d+) (E\w+) Em "?(?:\\&)?(.*?)"? ?\.?$', text, re.M)}
+        if not wanted:
+            harness.left_out.append("the errors of FreeBSD: its intro(2) isn't installed")
+            return
+        got = {name: (abs(number), said) for name, (number, said) in failing_devices.of_freebsd().items()}
+        self.same("tests/freebsd/errors.h and intro(2)", sorted(wanted.items()), sorted(got.items()), "errors of FreeBSD")

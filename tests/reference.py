@@ -23,12 +23,10 @@ EXTATTR_GET EXTATTR_LIST EXTATTR_SET ACL_CHECK ACL_DELETE ACL_GET ACL_SET KQUEUE
 NEVER_LIMITED = "never limited"
 EVERYTHING = frozenset(RIGHTS) | {NEVER_LIMITED}
 
-STANDS_FOR = {name: {name} for name in RIGHTS}
-STANDS_FOR["MMAP_X"] = {"MMAP", "SEEK", "MMAP_X"}
-for name in RIGHTS:
-    if name.endswith(("AT", "AT_SOURCE", "AT_TARGET")) and name != "FSTAT":
-        STANDS_FOR[name] = {name, "LOOKUP"}
-STANDS_FOR |= {
+STANDS_FOR = {
+    **{name: {name} for name in RIGHTS},
+    **{name: {name, "LOOKUP"} for name in RIGHTS if name.endswith(("AT", "AT_SOURCE", "AT_TARGET")) and name != "FSTAT"},
+    "MMAP_X": {"MMAP", "SEEK", "MMAP_X"},
     "PREAD": {"READ", "SEEK"},
     "PWRITE": {"WRITE", "SEEK"},
     "RECV": {"READ"},
@@ -41,9 +39,11 @@ STANDS_FOR |= {
     "CHFLAGSAT": {"LOOKUP", "FCHFLAGS"},
     "FUTIMESAT": {"LOOKUP", "FUTIMES"},
     "KQUEUE": {"KQUEUE_CHANGE", "KQUEUE_EVENT"},
+    "MMAP_RW": {"MMAP", "SEEK", "READ", "WRITE"},
+    "MMAP_RX": {"MMAP", "SEEK", "READ", "MMAP_X"},
+    "MMAP_WX": {"MMAP", "SEEK", "WRITE", "MMAP_X"},
+    "MMAP_RWX": {"MMAP", "SEEK", "READ", "WRITE", "MMAP_X"},
 }
-for letters in ("RW", "RX", "WX", "RWX"):
-    STANDS_FOR["MMAP_" + letters] = set().union(*(STANDS_FOR["MMAP_" + letter] for letter in letters))
 
 
 class Refused(Exception):
@@ -70,17 +70,19 @@ def directory(text):
     return text if text == "AT_FDCWD" else descriptor(text)
 
 
-def flags(text):
-    if not re.fullmatch(r"0|[A-Z][A-Z0-9_]*(\|[A-Z][A-Z0-9_]*)*", text):
+def shaped(text, shape):
+    if not re.fullmatch(shape, text):
         raise Refused(4)
-    return [] if text == "0" else text.split("|")
+    return text
+
+
+def flags(text):
+    return [] if shaped(text, r"0|[A-Z][A-Z0-9_]*(\|[A-Z][A-Z0-9_]*)*") == "0" else text.split("|")
 
 
 def path(text):
     escape = r"\\x(?:0[1-9a-f]|1[0-9a-f]|7f|[89a-f][0-9a-f])"
-    if not re.fullmatch(r'"(?:[ !#-\[\]-~]|\\"|\\\\|' + escape + r')*"', text):
-        raise Refused(4)
-    return text[1:-1]
+    return shaped(text, r'"(?:[ !#-\[\]-~]|\\"|\\\\|' + escape + r')*"')[1:-1]
 
 
 def rights(text):
@@ -113,25 +115,23 @@ ON_DESCRIPTOR = {
     "FSYNC": "fsync fdatasync",
     "FUTIMES": "futimes futimens",
 }
-for name in """fstat fstatfs ftruncate fchmod fchown fchflags fchdir flock fpathconf ioctl accept bind connect listen
-        shutdown getpeername getsockname getsockopt setsockopt fexecve""".split():
-    ON_DESCRIPTOR[name.upper()] = name
-NEEDS = {call: {right} for right, calls in ON_DESCRIPTOR.items() for call in calls.split()}
-NEEDS |= {call: set() for call in ("close", "dup", "cap_ioctls_limit", "cap_fcntls_limit")}
-
-FORMS = {call: [descriptor] for call in list(NEEDS) + ["closefrom"]}
+OF_THEIR_NAME = """fstat fstatfs ftruncate fchmod fchown fchflags fchdir flock fpathconf ioctl accept bind connect listen
+shutdown getpeername getsockname getsockopt setsockopt fexecve""".split()
+NEEDS = {
+    **{call: {right} for right, calls in ON_DESCRIPTOR.items() for call in calls.split()},
+    **{call: {call.upper()} for call in OF_THEIR_NAME},
+    **{call: set() for call in ("close", "dup", "cap_ioctls_limit", "cap_fcntls_limit")},
+}
 BY_PATH = """execve access chdir chflags chmod chown lchown lstat mkdir mkfifo mknod readlink rmdir stat statfs truncate
 unlink""".split()
-FORMS |= {call: [path] for call in BY_PATH}
-FORMS |= {call: [path, path] for call in ("link", "rename", "symlink")}
-FORMS |= {call: [directory, path] for call in "mkdirat mkfifoat mknodat readlinkat futimesat".split()}
-FORMS |= {
-    call: [directory, path, flags]
-    for call in "openat unlinkat fstatat fchmodat fchownat chflagsat utimensat".split()
-}
-FORMS |= {call: [flags] for call in ("socket", "socketpair", "pipe2")}
-FORMS |= {call: [] for call in "pipe kqueue shm_open mq_open fhopen fork vfork pdfork cap_enter @exit".split()}
-FORMS |= {
+FORMS = {
+    **{call: [descriptor] for call in list(NEEDS) + ["closefrom"]},
+    **{call: [path] for call in BY_PATH},
+    **{call: [path, path] for call in ("link", "rename", "symlink")},
+    **{call: [directory, path] for call in "mkdirat mkfifoat mknodat readlinkat futimesat".split()},
+    **{call: [directory, path, flags] for call in "openat unlinkat fstatat fchmodat fchownat chflagsat utimensat".split()},
+    **{call: [flags] for call in ("socket", "socketpair", "pipe2")},
+    **{call: [] for call in "pipe kqueue shm_open mq_open fhopen fork vfork pdfork cap_enter @exit".split()},
     "accept4": [descriptor, flags],
     "dup2": [descriptor, descriptor],
     "mmap": [descriptor, flags, flags],
@@ -149,15 +149,11 @@ SPECIAL = ("sendto", "sendmsg", "fcntl", "@start")
 
 
 def destination(text):
-    if text != "DEST":
-        raise Refused(4)
-    return text
+    return shaped(text, "DEST")
 
 
 def command(text):
-    if not re.fullmatch("[A-Z][A-Z0-9_]*", text):
-        raise Refused(4)
-    return text
+    return shaped(text, "[A-Z][A-Z0-9_]*")
 
 
 def form(name, words):
@@ -348,6 +344,31 @@ def rule_at_directory(name, given):
     return "forbidden" if is_global else "either", checks
 
 
+def needs_of_fcntl(command):
+    """What fcntl needs with a command; nothing is known of other commands."""
+    if command in COPIES + COPIES_TO + ("F_GETFD", "F_SETFD"):
+        return frozenset()
+    if command in ("F_GETFL", "F_SETFL", "F_GETOWN", "F_SETOWN"):
+        return all_of(["FCNTL"])
+    return all_of(["FLOCK"]) if command in ("F_GETLK", "F_SETLK", "F_SETLKW") else None
+
+
+def needs_of_mmap(protection, flags):
+    asked = ["MMAP"] + [right for word, right in (("PROT_READ", "MMAP_R"), ("PROT_EXEC", "MMAP_X")) if word in protection]
+    return all_of(asked + ["MMAP_W"] * ("PROT_WRITE" in protection and "MAP_SHARED" in flags))
+
+
+def needs_of(name, given):
+    """What a call needs of its first descriptor, or nothing where that isn't checked."""
+    if name in NEEDS:
+        return all_of(NEEDS[name])
+    if name in ("sendto", "sendmsg"):
+        return all_of(["WRITE", "CONNECT"][: len(given)])
+    if name == "mmap":
+        return needs_of_mmap(*given[1:])
+    return needs_of_fcntl(given[1]) if name == "fcntl" else {"accept4": all_of(["ACCEPT"]), "dup2": frozenset()}.get(name)
+
+
 def rule(name, given):
     if name in AT_CALLS:
         return rule_at_directory(name, given)
@@ -357,38 +378,10 @@ def rule(name, given):
         return "either", [(given[0], given[1] - {NEVER_LIMITED}, None)]
     if name == "cap_rights_limit":
         return "allowed", [(given[0], given[1] - {NEVER_LIMITED}, given[1])]
-    excuse = ...
-    if name in NEEDS:
-        needs = all_of(NEEDS[name])
-        if name in ("ioctl", "cap_ioctls_limit", "cap_fcntls_limit"):
-            excuse = None
-        elif name == "fexecve":
-            excuse = all_of(["FEXECVE", "READ"])
-    elif name in ("sendto", "sendmsg"):
-        needs = all_of(["WRITE", "CONNECT"][: len(given)])
-    elif name == "accept4":
-        needs = all_of(["ACCEPT"])
-    elif name == "dup2":
-        needs = frozenset()
-    elif name == "mmap":
-        asked = ["MMAP"] + [right for word, right in (("PROT_READ", "MMAP_R"), ("PROT_EXEC", "MMAP_X")) if word in given[1]]
-        if "PROT_WRITE" in given[1] and "MAP_SHARED" in given[2]:
-            asked += ["MMAP_W"]
-        needs, excuse = all_of(asked), all_of(["MMAP_RWX"])
-    elif name == "fcntl":
-        excuse = None
-        if given[1] in COPIES + COPIES_TO + ("F_GETFD", "F_SETFD"):
-            needs = frozenset()
-        elif given[1] in ("F_GETFL", "F_SETFL", "F_GETOWN", "F_SETOWN"):
-            needs = all_of(["FCNTL"])
-        elif given[1] in ("F_GETLK", "F_SETLK", "F_SETLKW"):
-            needs = all_of(["FLOCK"])
-        else:
-            return "either", []
-    else:
-        return "allowed" if name in ALWAYS_ALLOWED else "either", []
-    kind = "allowed" if name in ALWAYS_ALLOWED else "either"
-    return kind, [(given[0], needs, needs if excuse is ... else excuse)]
+    needs = needs_of(name, given)
+    excuse = None if name in ("ioctl", "cap_ioctls_limit", "cap_fcntls_limit", "fcntl") else needs
+    excuse = {"fexecve": all_of(["FEXECVE", "READ"]), "mmap": all_of(["MMAP_RWX"])}.get(name, excuse)
+    return "allowed" if name in ALWAYS_ALLOWED else "either", [] if needs is None else [(given[0], needs, excuse)]
 
 
 # ---- what is known of a process
@@ -437,10 +430,12 @@ def after_exec(cell):
 # ---- what a call makes of a cell
 
 
+CLOSE_ON_EXEC = {"socket": "SOCK_CLOEXEC", "socketpair": "SOCK_CLOEXEC", "open": "O_CLOEXEC", "openat": "O_CLOEXEC", "pipe2": "O_CLOEXEC"}
+
+
 def flag_of_new(name, given):
     """The flag of a descriptor that isn't a copy of another one."""
-    word = {"open": "O_CLOEXEC", "openat": "O_CLOEXEC", "pipe2": "O_CLOEXEC", "socket": "SOCK_CLOEXEC", "socketpair": "SOCK_CLOEXEC"}
-    return SET if name in word and word[name] in given[-1] else CLEAR
+    return SET if name in CLOSE_ON_EXEC and CLOSE_ON_EXEC[name] in given[-1] else CLEAR
 
 
 def flag_of_copy(name, given, old):
@@ -606,6 +601,11 @@ def report(found):
     return "".join(words for _, words in found) + f"findings {len(found)}\n"
 
 
+def found_in(report):
+    """The findings of a report, each with its position."""
+    return [(int(line.split(" ")[0]), f"{line}\n") for line in report.splitlines()[:-1]]
+
+
 # ---- texts of lines
 
 FULL = 1_000_000
@@ -618,6 +618,12 @@ def lines_of(text):
 
 def is_skipped(line):
     return line == "" or line[0] == "#"
+
+
+def positions(lines):
+    """The position of each line of a file, or 0 where it is skipped."""
+    counted = [not is_skipped(line) for line in lines]
+    return [sum(counted[:at]) * counted[at - 1] for at in range(1, len(lines) + 1)]
 
 
 def load(text):
@@ -679,10 +685,16 @@ def load_start(text):
     return start, None
 
 
-def check(text, profile=1, start=""):
-    """What the program writes for a trace, and its exit status. The start is a text."""
+def opened(text, start):
+    """The lines of a trace, the processes of a start, and what the program writes where one of them is refused."""
     known, refusal = load_start(start)
     trace, refusal = (None, refusal) if refusal else load(text)
+    return trace, known, refusal
+
+
+def check(text, profile=1, start=""):
+    """What the program writes for a trace, and its exit status. The start is a text."""
+    trace, known, refusal = opened(text, start)
     if refusal:
         return refusal, 2
     found = findings(trace, profile, known)
@@ -712,16 +724,22 @@ class Origins:
         if sum(was is not None and (before is None or was != before + 1) for before, was in pairs) > RUNS:
             self.origins = None
 
-    def changes(self, found):
-        """The reply to `changes`, for what is found now."""
-        if self.origins is None:
-            return "all\n" + "".join(f"+ {text}" for _, text in found) + f"findings {len(found)}\n"
+    def new(self):
+        """The positions of lines that are new."""
+        return {at for at, was in enumerate(self.origins, 1) if was is None}
+
+    def went_and_came(self, found):
+        """The findings of then that aren't found now, and those of now that weren't found then."""
         then, now = by_line(self.found), by_line(found)
         same = [(was, at) for at, was in enumerate(self.origins, 1) if was is not None and then.get(was) == now.get(at)]
         stay, stayed = {at for _, at in same}, {was for was, _ in same}
-        went = [f"- {text}" for at, text in self.found if at not in stayed]
-        came = [f"+ {text}" for at, text in found if at not in stay]
-        return "".join(went + came) + f"findings {len(found)}\n"
+        return [text for at, text in self.found if at not in stayed], [text for at, text in found if at not in stay]
+
+    def changes(self, found):
+        """The reply to `changes`, for what is found now."""
+        went, came = self.went_and_came(found) if self.origins is not None else ([], [text for _, text in found])
+        head = ["all\n"] if self.origins is None else [f"- {text}" for text in went]
+        return "".join(head + [f"+ {text}" for text in came]) + f"findings {len(found)}\n"
 
 
 def by_line(found):
@@ -751,20 +769,18 @@ def reply(trace, line, profile, last):
     words = re.fullmatch(f"(show|delete) {NUMBER}", line) or re.fullmatch(f"(insert|replace) {NUMBER} (.*)", line)
     if not words:
         raise Refused(10)
-    asked, at = words[1], int(words[2])
+    asked, at, *put = words[1], int(words[2]), *words.groups()[2:]
     if not 1 <= at <= len(trace) + (asked == "insert"):
         raise Refused(7)
     if asked == "show":
         return written(trace[at - 1]) + "\n"
-    if asked == "delete":
-        del trace[at - 1]
-        last.edit(at, 1, 0)
-        return f"ok {len(trace)}\n"
     if asked == "insert" and len(trace) == FULL:
         raise Refused(8)
-    read(words[3])
-    trace[at - 1 : at if asked == "replace" else at - 1] = [words[3]]
-    last.edit(at, asked == "replace", 1)
+    for line in put:
+        read(line)
+    taken = asked != "insert"
+    trace[at - 1 : at - 1 + taken] = put
+    last.edit(at, taken, len(put))
     return f"ok {len(trace)}\n"
 
 
@@ -782,6 +798,16 @@ def replies(text, script, profile=1):
         except Refused as fault:
             out.append(f"refused E{fault.args[0]}\n")
     return "".join(out), 1 if findings(trace, profile) else 0
+
+
+def edited(trace, script, found):
+    """The lines of a trace after a script of edits, and what is kept of those that it had, where these were its findings."""
+    trace, kept = list(trace), Origins()
+    kept.keep(found, len(trace))
+    for line in lines_of(script):
+        if not is_skipped(line):
+            reply(trace, line, 1, kept)
+    return trace, kept
 
 
 # ---- explanations
@@ -883,12 +909,9 @@ def chain_text(trace, word, named, known):
 
 def explained(text, asked, profile=1, start=""):
     """What the program writes for a line of a trace that is to be explained, and its exit status."""
-    known, refusal = load_start(start)
-    trace, refusal = (None, refusal) if refusal else load(text)
-    if refusal:
-        return refusal, 2
-    if not 1 <= asked <= len(trace):
-        return "refused E7\n", 2
+    trace, known, refusal = opened(text, start)
+    if refusal or not 1 <= asked <= len(trace):
+        return refusal or "refused E7\n", 2
     *before, (pid, name, given, answer) = [read(line) for line in trace[:asked]]
     processes = Processes(profile, known)
     for line in before:
@@ -912,8 +935,7 @@ def explained(text, asked, profile=1, start=""):
 
 def denials(text, profile=1, start=""):
     """What the program writes of the calls that were refused in a trace, and its exit status."""
-    known, refusal = load_start(start)
-    trace, refusal = (None, refusal) if refusal else load(text)
+    trace, known, refusal = opened(text, start)
     if refusal:
         return refusal, 2
     processes, out = Processes(profile, known), []
@@ -1025,12 +1047,9 @@ def limits_of_made(processes, lines):
 
 def limits(text, asked=None, profile=1, start=""):
     """What the program writes as limits before a line, or without one as limits of all that was made, and its exit status."""
-    known, refusal = load_start(start)
-    trace, refusal = (None, refusal) if refusal else load(text)
-    if refusal:
-        return refusal, 2
-    if asked is not None and not 1 <= asked <= len(trace):
-        return "refused E7\n", 2
+    trace, known, refusal = opened(text, start)
+    if refusal or (asked is not None and not 1 <= asked <= len(trace)):
+        return refusal or "refused E7\n", 2
     lines, processes = [read(line) for line in trace], Processes(profile, known)
     if asked is None:
         return limits_of_made(processes, lines), 0
@@ -1047,10 +1066,8 @@ def limits(text, asked=None, profile=1, start=""):
 
 def text_of(name):
     """The text of a file, or of standard input where there is no name."""
-    if name is None:
-        return sys.stdin.buffer.read().decode("latin1")
-    with open(name, "rb") as file:
-        return file.read().decode("latin1")
+    with open(sys.stdin.fileno() if name is None else name, encoding="latin1", newline="") as file:
+        return file.read()
 
 
 def main():
@@ -1070,8 +1087,7 @@ def main():
     else:
         start = text_of(words.start) if words.start is not None else ""
         answers = {"check": check, "denials": denials, "explain": explained, "limits": limits}
-        place = [words.K] if "K" in words else []
-        out, status = answers[words.command](trace, *place, profile, start)
+        out, status = answers[words.command](trace, *([words.K] if "K" in words else []), profile, start)
     sys.stdout.buffer.write(out.encode("latin1"))
     sys.exit(status)
 
