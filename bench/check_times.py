@@ -14,68 +14,47 @@ trace is made anew under a temporary folder, from a fixed seed, and named to bot
 """
 
 import os
-import statistics
-import sys
-import tempfile
+from statistics import median
 
+import timing
 import traces
-from timing import IN_PROFILE_2, peak, timed
 
 ROUNDS = 7
 # The descriptors of a process, and the turns, of `held`.
 HELD = (50, 500_000)
 TURNS = (1_000, 120_000)
+CALLS = ('execve("/bin/sh")', "closefrom(10)")
 
 
-def slope(program, profile, count, call, folder):
-    """Seconds of a turn more."""
-    least = []
+def check(trace, program):
+    command = [program, "check", *trace.words]
+    timing.run(command)
+    runs = timing.in_turn({"check": command, "wc": ["wc", "-l", trace.path]}, ROUNDS)
+    times, lines = runs["check"].clock, len(trace.lines) / 1e6
+    timing.figure(f"check.{trace.name}.speed", lines / median(times), "million_lines_a_second")
+    timing.figure(f"check.{trace.name}.best_speed", lines / min(times), "million_lines_a_second")
+    timing.figure(f"check.{trace.name}.to_wc", median(times) / median(runs["wc"].clock), "ratio")
+    timing.figure(f"check.{trace.name}.bytes", os.path.getsize(trace.path) / median(times) / 1e6, "MB_a_second")
+    timing.figure(f"check.{trace.name}.memory", timing.run(command, weighed=True).memory, "MB")
+
+
+def slope(folder, program, profile, call, count):
+    """Seconds of a turn more, where a process has so many descriptors."""
+    path, least = os.path.join(folder, "held"), []
     for times in TURNS:
-        path = os.path.join(folder, "held")
         traces.put(traces.held(count, call, times), path)
-        check = [program, "check", "--profile", profile, path]
-        least.append(min(timed(check) for _ in range(ROUNDS)))
+        least.append(min(timing.run([program, "check", "--profile", profile, path]).clock for _ in range(ROUNDS)))
     return (least[1] - least[0]) / (TURNS[1] - TURNS[0])
 
 
-def held(program, folder):
-    """Writes how the slopes of many descriptors are to those of few."""
-    for profile in ("1", "2"):
-        for call in ('execve("/bin/sh")', "closefrom(10)"):
-            few, many = (slope(program, profile, count, call, folder) for count in HELD)
-            print(
-                f"held, {call} in profile {profile}: a turn takes {many * 1e9:.0f} ns with {HELD[1]:,} descriptors, "
-                f"{many / few:.2f} times that with {HELD[0]}",
-                flush=True,
-            )
+def held(folder, program):
+    """The slopes with many descriptors, and as parts of those with few."""
+    for profile in "12":
+        for call in CALLS:
+            few, many = (slope(folder, program, profile, call, count) for count in HELD)
+            name = f"held.{call.split('(')[0]}.profile_{profile}.turn"
+            timing.figure(name, many * 1e9, "ns")
+            timing.figure(f"{name}.to_few_descriptors", many / few, "ratio")
 
 
-def main():
-    words = sys.argv[1:]
-    names = words[2:] or [*traces.TRACES, "held"]
-    if not words or any(name not in (*traces.TRACES, "held") for name in names):
-        sys.exit(__doc__.strip())
-    lines = int(words[1]) if len(words) > 1 else 1_000_000
-    with tempfile.TemporaryDirectory() as folder:
-        for name in names:
-            if name == "held":
-                held(os.path.abspath(words[0]), folder)
-                continue
-            path = os.path.join(folder, name)
-            count = traces.write(name, lines, path)
-            check = [os.path.abspath(words[0]), "check", path, *(["--profile", "2"] if name in IN_PROFILE_2 else [])]
-            timed(check)
-            ours, theirs = [], []
-            for _ in range(ROUNDS):
-                ours.append(timed(check))
-                theirs.append(timed(["wc", "-l", path]))
-            taken = statistics.median(ours)
-            print(
-                f"{name}: {count / taken / 1e6:.2f} million lines a second, {count / min(ours) / 1e6:.2f} at best, "
-                f"{taken / statistics.median(theirs):.1f} times `wc -l`, "
-                f"{os.path.getsize(path) / taken / 1e6:.0f} MB a second, peak memory {peak(check)}",
-                flush=True,
-            )
-
-
-main()
+timing.bench(__doc__, check, others={"held": held})

@@ -17,88 +17,61 @@ and one with many:
 Peak memory is that of `load`.
 """
 
-import os
+import itertools
 import random
-import statistics
-import sys
-import tempfile
+from statistics import median
 
+import timing
 import traces
-from timing import peak, timed
 
 ROUNDS = 5
-TRACES = {make.__name__: make for make in (traces.quiet, traces.ten, traces.loud, traces.forms)}
 CALL = "100 getpid() RET 100"
 LIMIT = "100 cap_rights_limit(3,CAP_READ|CAP_SEEK) RET 0"
 
 
-def edits(lines, count):
+def edits(lines):
     rng = random.Random(5)
-    for _ in range(count):
+    while True:
         place = rng.randrange(64, lines) + 1
-        yield from (f"replace {place} {CALL}", f"report {place} {place}")
+        yield f"replace {place} {CALL}", f"report {place} {place}"
 
 
-def lasting(lines, count):
+def lasting(lines):
     rng = random.Random(6)
-    for turn in range(count):
-        place = rng.randrange(64, lines // 10) + 1
-        yield f"insert {place} {LIMIT}" if turn % 2 == 0 else f"delete {place}"
-        yield f"report {lines} {lines}"
+    for turn in itertools.count():
+        place = rng.randrange(64, max(lines // 10, 80)) + 1
+        yield f"insert {place} {LIMIT}" if turn % 2 == 0 else f"delete {place}", f"report {lines} {lines}"
 
 
-def reports(lines, count):
+def reports(lines):
     rng = random.Random(7)
-    for _ in range(count):
-        yield from (f"replace {rng.randrange(64, lines) + 1} {CALL}", "report")
+    while True:
+        yield f"replace {rng.randrange(64, lines) + 1} {CALL}", "report"
 
 
 # Each script, and how many of its steps there are in one with few and in one with many. A report of many findings takes long.
-FEW = 2
+FEW, MANY = 2, 1000
 SCRIPTS = {"edit": edits, "lasting": lasting, "report": reports}
-MANY = {"quiet": 1000, "ten": 300, "loud": 6, "forms": 30}
+REPORTS = {"quiet": 1000, "ten": 300, "loud": 6}
 
 
-def many(script, name):
-    return MANY[name] if script == "report" else 1000
-
-
-def measured(program, name, lines, folder):
-    """One trace of so many lines."""
-    path, none = os.path.join(folder, "trace"), os.path.join(folder, "none")
-    traces.put(TRACES[name](lines), path)
-    with open(none, "w") as out:
-        out.write("count\n")
-    runs = {"check": [program, "check", path], "load": [program, "edit", path, none]}
+def measure(trace, program):
+    most = {"edit": MANY, "lasting": MANY, "report": REPORTS.get(trace.kind, 30)}
+    scripts = {"load": ["count"]}
     for script, steps in SCRIPTS.items():
-        for count in (FEW, many(script, name)):
-            kept = os.path.join(folder, f"{script}{count}")
-            with open(kept, "w") as out:
-                out.writelines(line + "\n" for line in steps(lines, count))
-            runs[script, count] = [program, "edit", path, kept]
-    taken = {run: [] for run in runs}
-    for _ in range(ROUNDS):
-        for run, command in runs.items():
-            taken[run].append(timed(command))
-    median = {run: statistics.median(times) for run, times in taken.items()}
-    found = [f"check {median['check'] * 1000:.1f} ms", f"load {median['load'] / median['check']:.1f}"]
-    for script in SCRIPTS:
-        most = many(script, name)
-        each = (median[script, most] - median[script, FEW]) / (most - FEW)
-        found.append(f"{script} {each / median['check']:.5f} ({each * 1e6:.0f} us)")
-    print(f"{name} {lines}: {', '.join(found)}, peak memory {peak(runs['load'])}", flush=True)
+        for count in (FEW, most[script]):
+            scripts[f"{script}{count}"] = itertools.chain(*itertools.islice(steps(len(trace.lines)), count))
+    commands = {"check": [program, "check", *trace.words]}
+    for script, lines in scripts.items():
+        traces.put(lines, f"{trace.path}.{script}")
+        commands[script] = [program, "edit", *trace.words, f"{trace.path}.{script}"]
+    took = {run: median(runs.clock) * 1000 for run, runs in timing.in_turn(commands, ROUNDS).items()}
+    timing.figure(f"edit.{trace.name}.check.time", took["check"], "ms")
+    timing.figure(f"edit.{trace.name}.load.time", took["load"], "ms", took["check"])
+    for script, count in most.items():
+        each = (took[f"{script}{count}"] - took[f"{script}{FEW}"]) / (count - FEW)
+        timing.figure(f"edit.{trace.name}.{script}.time", each, "ms", took["check"])
+    timing.figure(f"edit.{trace.name}.load.memory", timing.run(commands["load"], weighed=True).memory, "MB")
 
 
-def main():
-    words = sys.argv[1:]
-    names = words[2:] or list(TRACES)
-    if not words or any(name not in TRACES for name in names):
-        sys.exit(__doc__.strip())
-    longest = int(words[1]) if len(words) > 1 else 1_000_000
-    with tempfile.TemporaryDirectory() as folder:
-        for name in names:
-            for lines in (longest // 100, longest // 10, longest):
-                measured(os.path.abspath(words[0]), name, lines, folder)
-
-
-main()
+timing.bench(__doc__, measure, ("quiet", "ten", "loud", "forms"), parts=(100, 10, 1))

@@ -17,15 +17,11 @@ is needed. It loads the trace into a session, and explains lines of it many time
 What is to be looked at are the ratios to a check, there to reading and checking the lines.
 """
 
-import os
-import statistics
-import subprocess
 import sys
-import tempfile
+from statistics import median
 
-import programs
+import timing
 import traces
-from timing import timed
 
 ROUNDS = 5
 USES = "cap_session cap_summary cap_tree cap_machine cap_trace cap_rights"
@@ -35,7 +31,7 @@ LAST = "2 write(0) RET 1"
 MAIN = r'''//! Times explanations in a session of a trace that comes on standard input, in nanoseconds.
 #![tactic(auto)]
 
-use cap_machine::{Checker, NoMemory, Profile};
+use cap_machine::{Checker, NoMemory, Profile, Start};
 use cap_session::Session;
 use cap_trace::{Line, parse_line};
 use std::alloc::Global;
@@ -69,11 +65,12 @@ fn checked(alloc: Global, lines: &[Line]) -> usize {
 
 /// Times explanations, from the last line back by so many lines each time.
 fn time_explanations(rt: &HostRuntime, name: &str, session: &Session, back: usize) -> io::Result<()> {
+    let start = Start::unknown(rt.alloc());
     let mut position = session.count();
     let mut failed = 0_u64;
     let begun = Instant::now(rt)?;
     for _ in 0..TIMES {
-        if session.explain(position).is_err() {
+        if session.explain(position, &start).is_err() {
             failed = failed.saturating_add(1);
         }
         position = position.saturating_sub(back).max(1);
@@ -113,38 +110,25 @@ fn main(rt: HostRuntime) -> io::Result<()> {
 '''
 
 
-def runs(program, path, count):
-    """Seconds of a check and of an explanation of the last line, by medians of runs in turn."""
-    check, explain = [program, "check", path], [program, "explain", path, str(count)]
-    taken = [(timed(check), timed(explain)) for _ in range(ROUNDS)]
-    return [statistics.median(times) for times in zip(*taken)]
-
-
-def sessions(program, path):
+def seen(explainer, path):
     """What the program over a session says of a trace, by name."""
-    with open(path) as given:
-        said = subprocess.run([program], stdin=given, capture_output=True, text=True, check=True).stdout
-    return {name: int(value) for name, value in map(str.split, said.splitlines())}
+    return {name: int(value) for name, value in map(str.split, timing.run([explainer], path, says=True).said.splitlines())}
 
 
-def main():
-    words = sys.argv[1:]
-    names = words[2:] or ["quiet", "forms"]
-    if not words or any(name not in traces.TRACES for name in names):
-        sys.exit(__doc__.strip())
-    programs.with_rt()
-    count = int(words[1]) if len(words) > 1 else 1_000_000
-    with tempfile.TemporaryDirectory(prefix="explain_bench") as folder:
-        bench, path = programs.build(folder, "explain_bench", USES, MAIN), os.path.join(folder, "trace")
-        for name in names:
-            traces.put(FIRST + traces.TRACES[name](count - len(FIRST) - 1) + [LAST], path)
-            check, explain = runs(os.path.abspath(words[0]), path, count)
-            seen = sessions(bench, path)
-            if seen["lines"] != count or seen["last-failed"] or seen["any-failed"]:
-                sys.exit(f"{name}: not every line was read and explained: {seen}")
-            parts = [f"{key} {seen[key] / 1000:.1f} us (1/{seen['check'] / seen[key]:.0f})" for key in ("last", "any")]
-            load = seen["load"] / seen["check"]
-            print(f"{name} {count}: check {check * 1000:.0f} ms, run {explain / check:.2f}, load {load:.1f}, {', '.join(parts)}", flush=True)
+def measure(trace, program, explainer):
+    count, path, name = len(trace.lines), trace.path, f"explain.{trace.name}"
+    traces.put(FIRST + trace.lines[: count - len(FIRST) - 1] + [LAST], path)
+    commands = {"check": [program, "check", path], "run": [program, "explain", path, str(count)]}
+    took = {command: median(runs.clock) * 1000 for command, runs in timing.in_turn(commands, ROUNDS).items()}
+    each = seen(explainer, path)
+    if each["lines"] != count or each["last-failed"] or each["any-failed"]:
+        sys.exit(f"{trace.name}: not every line was read and explained: {each}")
+    timing.figure(f"{name}.check.time", took["check"], "ms")
+    timing.figure(f"{name}.run.time", took["run"], "ms", took["check"])
+    timing.figure(f"{name}.load", each["load"] / 1e6, "ms", each["check"] / 1e6)
+    for key in ("last", "any"):
+        timing.figure(f"{name}.{key}", each[key] / 1000, "us")
+        timing.figure(f"{name}.{key}.in_a_check", each["check"] / each[key], "explanations")
 
 
-main()
+timing.bench(__doc__, measure, ("quiet", "forms"), built=("explain_bench", USES, MAIN))

@@ -8,11 +8,9 @@ with 500,000. Needs valgrind. Instructions don't depend on how busy the machine 
 """
 
 import os
-import re
-import shutil
-import subprocess
-import sys
-import tempfile
+
+import timing
+import traces
 
 FORK = "cap_machine::table::Table::fork"
 AFTER = 1_000
@@ -24,39 +22,21 @@ def trace(count, forks, after):
     out += [f"100 socket(0) RET {fd}" for fd in range(count)]
     out += ["100 @exit()", "200 @start(0)"]
     out += ["200 fork() RET 100"] if forks else []
-    out += ["200 close(0) RET -1 errno 9"] * after
-    return "\n".join(out) + "\n"
+    return out + ["200 close(0) RET -1 errno 9"] * after
 
 
-def counted(program, function, text, folder):
-    """The instructions of all calls of a function, or of the whole run."""
+def fork(folder, program):
+    """The fork, and what the lines after it take more than the same lines without it."""
     path = os.path.join(folder, "trace")
-    with open(path, "w") as file:
-        file.write(text)
-    only = [f"--toggle-collect={function}"] if function else []
-    run = subprocess.run(
-        ["valgrind", "--tool=callgrind", f"--callgrind-out-file={folder}/out", *only, program, "check", path],
-        stdout=subprocess.DEVNULL,
-        stderr=subprocess.PIPE,
-        text=True,
-    )
-    return int(re.search(r"Collected : (\d+)", run.stderr).group(1))
+
+    def counted(*of, only=()):
+        traces.put(trace(*of), path)
+        return timing.counted([program, "check", path], *only)
+
+    for count in (50, 500_000):
+        timing.figure(f"fork.{count}_descriptors", counted(count, True, 0, only=[f"--toggle-collect={FORK}"]), "instructions")
+        with_it, without = (counted(count, forks, AFTER) - counted(count, forks, 0) for forks in (True, False))
+        timing.figure(f"fork.{count}_descriptors.a_line_after_it", (with_it - without) // AFTER, "instructions")
 
 
-def main(words):
-    if len(words) != 2:
-        sys.exit(__doc__)
-    if not shutil.which("valgrind"):
-        sys.exit("bench/fork_instructions.py needs valgrind, which isn't there.")
-    program = os.path.abspath(words[1])
-    with tempfile.TemporaryDirectory() as folder:
-        for count in (50, 500_000):
-            fork = counted(program, FORK, trace(count, True, 0), folder)
-            # what the lines after the fork take more than the same lines without it
-            lines = [counted(program, None, trace(count, forks, after), folder) for forks in (True, False) for after in (AFTER, 0)]
-            line = (lines[0] - lines[1] - lines[2] + lines[3]) // AFTER
-            print(f"{count:,} descriptors: the fork {fork:,} instructions, each line after it {line:,} more")
-
-
-if __name__ == "__main__":
-    main(sys.argv)
+timing.bench(__doc__, None, (), tools=["valgrind"], others={"fork": fork})

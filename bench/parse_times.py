@@ -8,15 +8,10 @@ it uses first: so `rt`, the command of the Rattle kit, is needed. It reads the w
 times `parse_line` over its lines, once.
 """
 
-import os
-import statistics
-import subprocess
 import sys
-import tempfile
-import time
+from statistics import median
 
-import programs
-import traces
+import timing
 
 ROUNDS = 7
 
@@ -46,34 +41,14 @@ fn main(rt: HostRuntime) -> io::Result<()> {
 """
 
 
-def main():
-    words = sys.argv[1:]
-    names = words[1:] or ["quiet", "forms"]
-    if any(name not in traces.TRACES for name in names):
-        sys.exit(__doc__.strip())
-    programs.with_rt()
-    lines = int(words[0]) if words else 1_000_000
-    with tempfile.TemporaryDirectory() as folder:
-        program = programs.build(folder, "reading_bench", "cap_trace", PROGRAM)
-        for name in names:
-            path = os.path.join(folder, name)
-            count = traces.write(name, lines, path)
-            ours, theirs = [], []
-            for _ in range(ROUNDS):
-                with open(path) as trace:
-                    took, good = subprocess.run([program], stdin=trace, capture_output=True, text=True, check=True).stdout.split()
-                ours.append(int(took) / 1e9)
-                if int(good) != count:
-                    sys.exit(f"{name}: {good} of {count} lines were read")
-                with open(path) as trace:
-                    begun = time.perf_counter()
-                    subprocess.run(["wc", "-l"], stdin=trace, capture_output=True, check=True)
-                    theirs.append(time.perf_counter() - begun)
-            taken = statistics.median(ours)
-            print(
-                f"{name}, reading alone: {count / taken / 1e6:.2f} million lines a second, "
-                f"{taken / statistics.median(theirs):.1f} times `wc -l`"
-            )
+def measure(trace, program):
+    runs = timing.in_turn({"read": [program], "wc": ["wc", "-l"]}, ROUNDS, given=trace.path, says=True)
+    took, good = zip(*(map(int, said.split()) for said in runs["read"].said))
+    if set(good) != {len(trace.lines)}:
+        sys.exit(f"{trace.name}: {min(good)} of {len(trace.lines)} lines were read")
+    seconds = median(took) / 1e9
+    timing.figure(f"parse.{trace.name}.speed", len(trace.lines) / seconds / 1e6, "million_lines_a_second")
+    timing.figure(f"parse.{trace.name}.to_wc", seconds / median(runs["wc"].clock), "ratio")
 
 
-main()
+timing.bench(__doc__, measure, ("quiet", "forms"), built=("reading_bench", "cap_trace", PROGRAM))

@@ -5,76 +5,47 @@
 
 The traces are those of TRACES in traces.py at 1,000,000 lines, most of them made to be hard: all of them, or those that are
 named. `execs` and `turns` run in profile 2. The session loads the trace and is asked for the findings of its last line; when its
-script ends it has to know whether the trace has any. Of both runs the user seconds and the peak memory, by `/usr/bin/time`,
-which it needs. Then, in a session that has loaded the trace, the milliseconds by the clock until a whole report is read, the
-median of five.
+script ends it has to know whether the trace has any. Of both runs the user seconds, and the peak memory by `/usr/bin/time`,
+which it needs. Then, in a session that has loaded the trace, the milliseconds by the clock until a whole report is read, and as
+parts of those of a check by the clock:
+
+    first_report      the first one
+    report            one after another one, with no edit between them, the median of five
+    edit_and_report   a line from the middle half is replaced by one at most seven lines away, and the report after it, the median
+                      of five
 """
 
-import io
-import os
-import shutil
-import statistics
-import subprocess
-import sys
-import tempfile
-import time
+import random
+from statistics import median
 
+import timing
 import traces
-from timing import IN_PROFILE_2
+
+TIMES = 5
 
 
-def measured(command):
-    """The user seconds of one run, and its peak memory in millions of bytes."""
-    time = ["/usr/bin/time", "-f", "%U %M", *command]
-    run = subprocess.run(time, stdin=subprocess.DEVNULL, stdout=subprocess.DEVNULL, stderr=subprocess.PIPE, text=True)
-    if run.returncode not in (0, 1):
-        sys.exit(f"{' '.join(command)} ended with status {run.returncode}")
-    seconds, kibibytes = run.stderr.split()[-2:]
-    return float(seconds), int(kibibytes) * 1024 / 1e6
+def reports(command, trace, check):
+    """Reports of a session, beside the milliseconds of a check."""
+    made, rng = trace.lines, random.Random(12)
+    talk = timing.Talk(command)
+    talk.ask("report 1 1")
+    took = {"first_report": talk.ask("report"), "report": median(talk.ask("report") for _ in range(TIMES))}
+    places = [rng.randrange(max(len(made) // 4, 7), len(made) * 3 // 4) for _ in range(TIMES)]
+    took["edit_and_report"] = median(talk.ask(f"replace {at + 1} {traces.neighbour(made, at, rng)}", "report") for at in places)
+    talk.end()
+    for name, value in took.items():
+        timing.figure(f"session.{trace.name}.{name}", value, "ms", check)
 
 
-def replied(session, replies, command):
-    """The milliseconds until the last line of a report is read."""
-    begun = time.perf_counter()
-    session.stdin.write(f"{command}\n".encode())
-    while not (line := replies.readline()).startswith(b"findings"):
-        if not line:
-            sys.exit(f"a session ended at {command}")
-    return (time.perf_counter() - begun) * 1000
+def measure(trace, program):
+    script, edit = f"{trace.path}.script", [program, "edit", *trace.words]
+    traces.put([f"report {len(trace.lines)} {len(trace.lines)}"], script)
+    runs = {"check": [program, "check", *trace.words], "load": [*edit, script]}
+    runs = {name: timing.run(command, weighed=True) for name, command in runs.items()}
+    for name, run in runs.items():
+        timing.figure(f"session.{trace.name}.{name}.user", run.user, "s")
+        timing.figure(f"session.{trace.name}.{name}.memory", run.memory, "MB")
+    reports(edit, trace, runs["check"].clock * 1000)
 
 
-def reported(command):
-    """The milliseconds of a whole report in a session."""
-    with subprocess.Popen(command, stdin=subprocess.PIPE, stdout=subprocess.PIPE, bufsize=0) as session:
-        replies = io.BufferedReader(session.stdout, 1 << 20)
-        replied(session, replies, "report 1 1")
-        taken = statistics.median(replied(session, replies, "report") for _ in range(5))
-        session.stdin.close()
-    return taken
-
-
-def main():
-    words = sys.argv[1:]
-    names = words[2:] or list(traces.TRACES)
-    if not words or any(name not in traces.TRACES for name in names):
-        sys.exit(__doc__.strip())
-    if not shutil.which("/usr/bin/time"):
-        sys.exit("bench/session_times.py needs /usr/bin/time, which isn't there.")
-    program, lines = os.path.abspath(words[0]), int(words[1]) if len(words) > 1 else 1_000_000
-    with tempfile.TemporaryDirectory() as folder:
-        path, script = os.path.join(folder, "trace"), os.path.join(folder, "script")
-        for name in names:
-            count = traces.write(name, lines, path)
-            with open(script, "w") as out:
-                out.write(f"report {count} {count}\n")
-            profile = ["--profile", "2"] if name in IN_PROFILE_2 else []
-            edit = [program, "edit", *profile, path]
-            check, session = measured([program, "check", *profile, path]), measured([*edit, script])
-            print(
-                f"{name}, {count:,} lines, {os.path.getsize(path) / 1e6:.0f} MB: check {check[0]:.2f} s, {check[1]:.0f} MB; "
-                f"session {session[0]:.2f} s, {session[1]:.0f} MB; report {reported(edit):.2f} ms",
-                flush=True,
-            )
-
-
-main()
+timing.bench(__doc__, measure, tools=["/usr/bin/time"])

@@ -6,19 +6,15 @@
 A program over crates/cap_summary is written to a temporary folder and built there by `rt run`, which proves it first: so `rt`, the
 command of the Rattle kit, is needed.
 The traces are those of TRACES in traces.py, `quiet` and `forms` where none is named; all are checked in profile 2.
-Times are in milliseconds, of one run each. What is to be looked at are the ratios to reading and checking the lines:
+Times are in milliseconds, of one run each. What is to be looked at are the ratios, here to reading and checking the lines:
 of all summaries, of an ordinary edit near the middle, of one after which the state changes, and of a whole report.
-The memory is that in use before the summaries are made, of the lines, and the peak, of the lines and all summaries.
+The memory is that in use before the summaries are made, of the lines, and the peak, of the lines and all summaries, in one more run
+by `/usr/bin/time` where that is installed.
 """
 
-import os
 import resource
-import subprocess
-import sys
-import tempfile
 
-import programs
-import traces
+import timing
 
 USES = "cap_summary cap_tree cap_machine cap_trace"
 MOST_MEMORY = 8 << 30
@@ -167,50 +163,22 @@ fn main(rt: HostRuntime) -> io::Result<()> {
 '''
 
 
-def limit():
-    resource.setrlimit(resource.RLIMIT_AS, (MOST_MEMORY, MOST_MEMORY))
+def measure(trace, program):
+    """What the program says of a trace, with the memory in use when it has the lines alone, and the peak."""
+    resource.setrlimit(resource.RLIMIT_AS, (MOST_MEMORY, resource.getrlimit(resource.RLIMIT_AS)[1]))
+    name, seen, memory = f"summary.{trace.name}", {}, {}
+    for line, used in timing.streamed([program], trace.path):
+        key, value = line.split()
+        seen[key], memory[key] = int(value), used
+    whole = seen["read"] + seen["check"]
+    for key in ("read", "check"):
+        timing.figure(f"{name}.{key}", seen[key] / 1e6, "ms")
+    for key in ("summaries", "edit", "lasting", "report"):
+        timing.figure(f"{name}.{key}", seen.get(key, 0) / 1e6, "ms", whole / 1e6)
+    for key in ("lines", "findings"):
+        timing.figure(f"{name}.{key}", seen.get(key, 0), key)
+    timing.figure(f"{name}.memory_of_lines", memory["check"], "MB")
+    timing.figure(f"{name}.memory", timing.run([program], trace.path, weighed=True).memory, "MB")
 
 
-def memory_of(pid):
-    """The memory that a process has in use, in MB."""
-    with open(f"/proc/{pid}/status") as status:
-        return next((int(line.split()[1]) / 1024 for line in status if line.startswith("VmRSS:")), 0)
-
-
-def run(program, path):
-    """What the program says of a trace, by name, the memory of the lines, and its peak memory, both in MB."""
-    seen, lines = {}, 0
-    with open(path) as trace:
-        done = subprocess.Popen([program], stdin=trace, stdout=subprocess.PIPE, text=True, preexec_fn=limit)
-        for name, value in map(str.split, done.stdout):
-            seen[name] = int(value)
-            if name == "check":
-                lines = memory_of(done.pid)
-        _, _, usage = os.wait4(done.pid, 0)
-    return seen, lines, usage.ru_maxrss / 1024
-
-
-def main():
-    words = sys.argv[1:]
-    lines = int(words[0]) if words else 1_000_000
-    names = words[1:] or ["quiet", "forms"]
-    if any(name not in traces.TRACES for name in names):
-        sys.exit(__doc__.strip())
-    programs.with_rt()
-    with tempfile.TemporaryDirectory(prefix="summary_bench") as folder:
-        program = programs.build(folder, "summary_bench", USES, MAIN)
-        path = os.path.join(folder, "trace")
-        print("trace        lines  read, check  summaries (ratio)     edit (part)  lasting (part)   report (ratio)  findings  MB: lines, all")
-        for name in names:
-            traces.write(name, lines, path)
-            seen, lines_alone, memory = run(program, path)
-            ms = {key: seen.get(key, 0) / 1e6 for key in ("read", "check", "summaries", "edit", "lasting", "report")}
-            whole = ms["read"] + ms["check"]
-            parts = [f"{ms[key]:8.3f} (1/{whole / max(ms[key], 1e-6):5.0f})" for key in ("edit", "lasting")]
-            print(
-                f"{name:9} {seen['lines']:9,}  {ms['read']:5.0f}, {ms['check']:5.0f}  {ms['summaries']:9.0f} ({ms['summaries'] / whole:5.1f})"
-                f"  {parts[0]}  {parts[1]}  {ms['report']:8.2f} ({ms['report'] / whole:5.3f})  {seen.get('findings', 0):8,}  {lines_alone:4.0f}, {memory:4.0f}"
-            )
-
-
-main()
+timing.bench(__doc__, measure, ("quiet", "forms"), built=("summary_bench", USES, MAIN))

@@ -81,6 +81,26 @@ def descriptors(lines):
     return out[:lines]
 
 
+# Calls of a process of `forms`, with the weight of each, and below what its numbers are.
+USUAL = (
+    (20, "read({}) RET {}", 5, 65_536),
+    (20, "write({}) RET {}", 3, 65_536),
+    (6, "fstat({}) RET 0", 5),
+    (5, "lseek(3) RET {}", 1 << 30),
+    (5, "recvfrom(4) RET {}", 2_048),
+    (5, "sendto(4,DEST) RET {}", 2_048),
+    (2, "ioctl(0) RET -1 errno 25"),
+    (3, "fcntl(3,F_GETFL) RET 2"),
+    (4, "mmap(3,PROT_READ,MAP_PRIVATE) RET 34366103552"),
+    (4, 'fstatat(3,"share/{}",AT_SYMLINK_NOFOLLOW) RET 0', 100),
+    (3, 'stat("/usr/lib/libc.so.{}") RET 0', 10),
+    (6, "kevent(5,0,16) RET 3"),
+    (3, "getpid() RET 100"),
+    (0.5, "fchmod(3) RET 0"),
+)
+OPENS = ('openat(3,"{path}",O_RDONLY|O_CLOEXEC)', 'open("/{path}",O_RDONLY)', "dup2(0,{fd})")
+
+
 def forms(lines):
     """Sixteen processes and calls of every shape: on descriptors, by path, at a directory, forks and exits.
 
@@ -92,23 +112,7 @@ def forms(lines):
     out += [f"{pid} socket(PF_INET|SOCK_STREAM) RET 4" for pid in pids]
     out += [f"{pid} cap_rights_limit(3,CAP_LOOKUP|CAP_READ|CAP_FSTAT|CAP_SEEK|CAP_FCNTL|CAP_MMAP_R) RET 0" for pid in pids]
     opened = {pid: [] for pid in pids}
-    usual = (
-        lambda: f"read({rng.randrange(5)}) RET {rng.randrange(65536)}",
-        lambda: f"write({rng.randrange(3)}) RET {rng.randrange(65536)}",
-        lambda: f"fstat({rng.randrange(5)}) RET 0",
-        lambda: f"lseek(3) RET {rng.randrange(1 << 30)}",
-        lambda: f"recvfrom(4) RET {rng.randrange(2048)}",
-        lambda: f"sendto(4,DEST) RET {rng.randrange(2048)}",
-        lambda: "ioctl(0) RET -1 errno 25",
-        lambda: "fcntl(3,F_GETFL) RET 2",
-        lambda: "mmap(3,PROT_READ,MAP_PRIVATE) RET 34366103552",
-        lambda: f'fstatat(3,"share/{rng.randrange(100)}",AT_SYMLINK_NOFOLLOW) RET 0',
-        lambda: f'stat("/usr/lib/libc.so.{rng.randrange(10)}") RET 0',
-        lambda: "kevent(5,0,16) RET 3",
-        lambda: "getpid() RET 100",
-        lambda: "fchmod(3) RET 0",
-    )
-    weights = (20, 20, 6, 5, 5, 5, 2, 3, 4, 4, 3, 6, 3, 0.5)
+    weights = [weight for weight, *_ in USUAL]
     child = 1000
     while len(out) < lines:
         pid = rng.choice(pids)
@@ -121,16 +125,62 @@ def forms(lines):
             fd = next(fd for fd in range(5, 64) if fd not in mine)
             mine.append(fd)
             path = f"share/locale/{rng.randrange(100)}"
-            out.append(rng.choice((
-                f'{pid} openat(3,"{path}",O_RDONLY|O_CLOEXEC) RET {fd}',
-                f'{pid} open("/{path}",O_RDONLY) RET {fd}',
-                f"{pid} dup2(0,{fd}) RET {fd}",
-            )))
+            out.append(f"{pid} {rng.choice(OPENS).format(path=path, fd=fd)} RET {fd}")
         elif kind < 0.15 and mine:
             out.append(f"{pid} close({mine.pop(rng.randrange(len(mine)))}) RET 0")
         else:
-            out.append(f"{pid} {rng.choices(usual, weights)[0]()}")
+            _, call, *below = rng.choices(USUAL, weights)[0]
+            out.append(f"{pid} {call.format(*map(rng.randrange, below))}")
     return out[:lines]
+
+
+# Calls of a process of `mixed` on a descriptor, with the right that each needs and its weight; then the parts of others.
+AT_FD = (
+    ("read({}) RET {n}", "CAP_READ", 16), ("write({}) RET {n}", "CAP_WRITE", 13), ("writev({}) RET {n}", "CAP_WRITE", 6),
+    ("pread({}) RET {n}", "CAP_PREAD", 5), ("pwrite({}) RET {n}", "CAP_PWRITE", 6), ("lseek({}) RET {n}", "CAP_SEEK", 5),
+    ("fstat({}) RET {n}", "CAP_FSTAT", 5), ("fcntl({},F_GETFL) RET 2", "CAP_FCNTL", 1), ("fcntl({},F_SETFD,FD_CLOEXEC) RET 0", None, 1),
+    ("mmap({},PROT_READ|PROT_WRITE,MAP_SHARED) RET 3{n}59616", "CAP_MMAP_RW", 2),
+)
+LIMITS = ("CAP_PREAD|CAP_FSTAT|CAP_EVENT|CAP_FCNTL", "CAP_PWRITE|CAP_FSTAT|CAP_FSYNC", "CAP_READ|CAP_WRITE|CAP_SEEK|CAP_FSTAT|CAP_EVENT")
+FREE = ("clock_gettime(4) RET 0", "_umtx_op(0x8012a,15,0,0) RET -1 errno 60", "kevent(7,0x820c4f,1,0x820c6f,64) RET {n}")
+PATHS = ("/etc/ssl/openssl.cnf", "/usr/local/lib/libcrypto.so.30", "/dev/null", "/var/log/messages", "/srv/www/work/project/src/main.c", "/run/x")
+FILES = ("index.html", "data/part-0001", "img/logo.png", "x.tmp")
+BY_PATH = ("stat", "lstat", "access", "readlink")
+
+
+def with_new(fds, call, limit=""):
+    """A call that makes a descriptor, the lowest that is free below 64, with a limit; nothing where none is free."""
+    fd = next((fd for fd in range(64) if fd not in fds), None)
+    if fd is None:
+        return ""
+    fds[fd] = limit
+    return f"{call} RET {fd}"
+
+
+def call_of_mixed(rng, kind, fds, fd, n, is_inside):
+    """A call of a process with these descriptors, by their limits, or nothing."""
+    if kind < 0.06:
+        return rng.choice(FREE).format(n=n % 64)
+    if kind < 0.10:
+        return f'{rng.choice(BY_PATH)}("{rng.choice(PATHS)}") RET {"-1 errno 94" if is_inside else "0"}'
+    if kind < 0.21:
+        call = f'open("{rng.choice(PATHS)}",O_RDWR|O_CREAT|O_CLOEXEC)'
+        fails = is_inside or rng.random() < 0.1
+        return f"{call} RET -1 errno {94 if is_inside else 2}" if fails else with_new(fds, call)
+    if kind < 0.235:
+        return with_new(fds, "socket(PF_INET|SOCK_CLOEXEC)")
+    if kind < 0.255:
+        return with_new(fds, f"dup({fd})", fds[fd])
+    if kind < 0.29 and not fds[fd]:
+        return with_new(fds, f'openat({fd},"{rng.choice(FILES)}",O_RDONLY|O_CLOEXEC)')
+    if kind < 0.325:
+        fds[fd] = fds[fd] or rng.choice(LIMITS)
+        return f"cap_rights_limit({fd},{fds[fd]}) RET 0"
+    if kind < 0.46 and len(fds) > 3:
+        del fds[fd]
+        return f"close({fd}) RET 0"
+    within = [call for call in AT_FD if not fds[fd] or call[1] in (None, *fds[fd].split("|")) or rng.random() < 0.003]
+    return rng.choices(within, [weight for _, _, weight in within])[0][0].format(fd, n=n)
 
 
 def mixed(lines):
@@ -141,25 +191,6 @@ def mixed(lines):
     held = {pid: {0: "", 1: "", 2: ""} for pid in range(100, 116)}
     inside = set()
     child = 116
-    limits = ("CAP_PREAD|CAP_FSTAT|CAP_EVENT|CAP_FCNTL", "CAP_PWRITE|CAP_FSTAT|CAP_FSYNC", "CAP_READ|CAP_WRITE|CAP_SEEK|CAP_FSTAT|CAP_EVENT")
-    at_fd = (
-        ("read({}) RET {n}", "CAP_READ", 16), ("write({}) RET {n}", "CAP_WRITE", 13), ("writev({}) RET {n}", "CAP_WRITE", 6),
-        ("pread({}) RET {n}", "CAP_PREAD", 5), ("pwrite({}) RET {n}", "CAP_PWRITE", 6), ("lseek({}) RET {n}", "CAP_SEEK", 5),
-        ("fstat({}) RET {n}", "CAP_FSTAT", 5), ("fcntl({},F_GETFL) RET 2", "CAP_FCNTL", 1), ("fcntl({},F_SETFD,FD_CLOEXEC) RET 0", None, 1),
-        ("mmap({},PROT_READ|PROT_WRITE,MAP_SHARED) RET 3{n}59616", "CAP_MMAP_RW", 2),
-    )
-    free = ("clock_gettime(4) RET 0", "_umtx_op(0x8012a,15,0,0) RET -1 errno 60", "kevent(7,0x820c4f,1,0x820c6f,64) RET {n}")
-    paths = ("/etc/ssl/openssl.cnf", "/usr/local/lib/libcrypto.so.30", "/dev/null", "/var/log/messages", "/srv/www/work/project/src/main.c", "/run/x")
-    files = ("index.html", "data/part-0001", "img/logo.png", "x.tmp")
-    by_path = ("stat", "lstat", "access", "readlink")
-
-    def made(pid, text, limit=""):
-        """A call that makes a descriptor, the lowest that is free below 64, with a limit."""
-        fd = next((fd for fd in range(64) if fd not in held[pid]), None)
-        if fd is not None:
-            held[pid][fd] = limit
-            out.append(f"{pid} {text} RET {fd}")
-
     while len(out) < lines:
         pid = rng.choice(tuple(held))
         fds = held[pid]
@@ -168,41 +199,15 @@ def mixed(lines):
         kind = rng.random()
         if kind < 0.004 and pid not in inside:
             held[child] = dict(fds)
-            out.append(f"{pid} fork() RET {child}")
-            child += 1
             gone = rng.choice(tuple(held))
             del held[gone]
-            out.append(f"{gone} @exit()")
+            out += [f"{pid} fork() RET {child}", f"{gone} @exit()"]
+            child += 1
         elif kind < 0.0044:
             inside.add(pid)
             out.append(f"{pid} cap_enter() RET 0")
-        elif kind < 0.06:
-            out.append(f"{pid} {rng.choice(free).format(n=n % 64)}")
-        elif kind < 0.10:
-            answer = "-1 errno 94" if pid in inside else "0"
-            out.append(f'{pid} {rng.choice(by_path)}("{rng.choice(paths)}") RET {answer}')
-        elif kind < 0.21:
-            text = f'open("{rng.choice(paths)}",O_RDWR|O_CREAT|O_CLOEXEC)'
-            if pid in inside or rng.random() < 0.1:
-                out.append(f"{pid} {text} RET -1 errno {94 if pid in inside else 2}")
-            else:
-                made(pid, text)
-        elif kind < 0.235:
-            made(pid, "socket(PF_INET|SOCK_CLOEXEC)")
-        elif kind < 0.255:
-            made(pid, f"dup({fd})", fds[fd])
-        elif kind < 0.29 and not fds[fd]:
-            made(pid, f'openat({fd},"{rng.choice(files)}",O_RDONLY|O_CLOEXEC)')
-        elif kind < 0.325:
-            fds[fd] = fds[fd] or rng.choice(limits)
-            out.append(f"{pid} cap_rights_limit({fd},{fds[fd]}) RET 0")
-        elif kind < 0.46 and len(fds) > 3:
-            del fds[fd]
-            out.append(f"{pid} close({fd}) RET 0")
-        else:
-            within = [call for call in at_fd if not fds[fd] or call[1] in (None, *fds[fd].split("|")) or rng.random() < 0.003]
-            text = rng.choices(within, [weight for _, _, weight in within])[0][0]
-            out.append(f"{pid} {text.format(fd, n=n)}")
+        elif call := call_of_mixed(rng, kind, fds, fd, n, pid in inside):
+            out.append(f"{pid} {call}")
     return out[:lines]
 
 
@@ -349,7 +354,7 @@ def lineage(lines):
 def strangers(lines):
     """As many processes as there can be, all unknown before; each makes twenty descriptors far from one another,
     by ten calls."""
-    each = lines // LAST_PID
+    each = max(lines // LAST_PID, 1)
     out = []
     for pid in range(1, LAST_PID + 1):
         fds = scattered(2 * each, pid)
@@ -461,52 +466,43 @@ def held(count, call, times):
     return out
 
 
-def refused(count):
-    """As the trace of `quiet`, where so many lines, anywhere, are replaced by a close that capability mode refused."""
+def found(refused=0, lacking=0):
+    """A maker of traces as that of `quiet`, where so many lines in a million, anywhere, are replaced by a close that capability mode
+    refused, and so many others by a write to the descriptor whose limit in line 2 lacks that right."""
 
     def make(lines):
-        rng = random.Random(5)
         out = quiet(lines)
-        for at in rng.sample(range(64, len(out)), count * lines // 1_000_000):
+        places = range(64, len(out))
+        for at in random.Random(5).sample(places, refused * lines // 1_000_000):
             out[at] = f"{out[at].split(' ')[0]} close(700) RET -1 errno 94"
-        return out
-
-    make.__name__ = f"refused_{count}"
-    return make
-
-
-def lacking(count):
-    """As the trace of `quiet`, where so many lines, anywhere, write to the descriptor whose limit in line 2 lacks that right."""
-
-    def make(lines):
-        rng = random.Random(6)
-        out = quiet(lines)
-        for at in rng.sample(range(64, len(out)), count * lines // 1_000_000):
+        others = [at for at in places if not out[at].endswith(" errno 94")]
+        for at in random.Random(6).sample(others, lacking * lines // 1_000_000):
             out[at] = "100 write(0) RET 1"
         return out
 
-    make.__name__ = f"lacking_{count}"
     return make
 
 
 TRACES = {
     make.__name__: make
     for make in (
-        quiet, loud, used, wide, descriptors, forms, mixed, crowd, hostile, pairs, spread, closes, socketpairs, chain, long_chain, narrowing, long_narrowing,
-        limits, heirs, lineage, families, strangers, starts, packed, execs, turns,
-        refused(100), refused(2_500), refused(16_000), lacking(2_500), lacking(16_000),
+        quiet, ten, loud, used, wide, descriptors, forms, mixed, crowd, hostile, pairs, spread, closes, socketpairs, chain, long_chain,
+        narrowing, long_narrowing, limits, heirs, lineage, families, strangers, starts, packed, execs, turns,
     )
 }
+# Those with findings, by how many there are in a million lines.
+FOUND = {f"refused_{count}": found(refused=count) for count in (100, 2_500, 16_000)}
+FOUND.update({f"lacking_{count}": found(lacking=count) for count in (2_500, 16_000)})
+FOUND.update({f"lacking_250_beside_{count}": found(refused=count, lacking=250) for count in (2_500, 16_000)})
+TRACES.update(FOUND)
+
+
+def neighbour(made, place, rng):
+    """A line at most seven away."""
+    return made[place + rng.choice((-7, -6, -5, -4, -3, -2, -1, 1, 2, 3, 4, 5, 6, 7))]
 
 
 def put(made, path):
     """Writes these lines to a file."""
-    with open(path, "w") as out:
+    with open(path, "w", errors="surrogateescape") as out:
         out.write("\n".join(made) + "\n")
-
-
-def write(name, lines, path):
-    """Writes the trace of this name to a file, and answers how many lines it has."""
-    made = TRACES[name](lines)
-    put(made, path)
-    return len(made)

@@ -15,13 +15,10 @@ items alone and holds them by a pointer each. (The list that the last tree is ma
 counted.)
 """
 
-import os
-import re
-import subprocess
 import sys
 import tempfile
 
-import programs
+import timing
 
 LENGTHS = (1_000, 30_000, 1_000_000)
 EDITS = 20_000
@@ -207,63 +204,52 @@ fn main(rt: HostRuntime) -> io::Result<()> {
 """
 
 
-def runner(folder, proved):
-    """A function of the program's arguments that answers its output."""
-    how = {"stdin": subprocess.DEVNULL, "capture_output": True, "text": True, "check": proved}
-    if proved:
-        words = [programs.build(folder, "tree_bench", "cap_tree", PROGRAM)]
-    else:
-        words, how["cwd"] = ["rt", "try", "--"], programs.written(folder, "tree_bench", "cap_tree", PROGRAM)
-    return lambda *given: subprocess.run([*words, *map(str, given)], **how).stdout
+def numbers_of(answer, length):
+    """The nanoseconds an item of a list, those of an edit anywhere and near one place; the mean of the joins of an edit, and the most."""
+    of_list, anywhere = (list(map(int, line.split()[1:])) for line in answer(length, EDITS, 0, 0).splitlines())
+    near = int(answer(length, EDITS, 0, NEAR).splitlines()[1].split()[1])
+    return (of_list[0] / length, anywhere[0] / EDITS, near / EDITS), (anywhere[1] / EDITS, anywhere[2])
 
 
-def peak(program, *words):
-    """The peak memory of a run, in bytes."""
-    pid = os.posix_spawn(
-        program,
-        [program, *map(str, words)],
-        {},
-        file_actions=[(os.POSIX_SPAWN_OPEN, 1, "/dev/null", os.O_WRONLY, 0)],
-    )
-    _, status, usage = os.wait4(pid, 0)
-    if status:
-        sys.exit("the program failed")
-    return usage.ru_maxrss * 1024
+def times(answer):
+    rounds = [[numbers_of(answer, length) for length in LENGTHS] for _ in range(ROUNDS)]
+    least = [[min(values) for values in zip(*(took for took, _ in of))] for of in zip(*rounds)]
+    for length, (made, anywhere, near), (_, joins) in zip(LENGTHS, least, rounds[-1]):
+        digits = length.bit_length()
+        for name, value, unit, first in (
+            ("digits", digits, "digits", LENGTHS[0].bit_length()),
+            ("list.an_item", made, "ns", None),
+            ("edit.anywhere", anywhere, "ns", least[0][1]),
+            ("edit.near", near, "ns", least[0][2]),
+            ("edit.joins", joins[0], "joins", None),
+            ("edit.most_joins", joins[1], "joins", None),
+            ("edit.allowed_joins", 12 * digits + 12, "joins", None),
+        ):
+            timing.figure(f"tree.{length}.{name}", value, unit)
+            if first:
+                timing.figure(f"tree.{length}.{name}.to_{LENGTHS[0]}", value / first, "ratio")
+
+
+def weights(program):
+    """The bytes of an item in a tree, and those that are the tree's and not the item's own."""
+    for length in LENGTHS:
+        lists = max(LENGTHS) // length
+        runs = [timing.run([program, *map(str, (length, 0, lists, with_tree))], weighed=True) for with_tree in (0, 1)]
+        bare, whole = (run.memory and run.memory * 1e6 / (lists * length) for run in runs)
+        timing.figure(f"tree.{length}.memory_an_item", whole and whole - POINTER / lists, "bytes")
+        timing.figure(f"tree.{length}.memory_an_item.of_tree", whole and whole - POINTER / lists - bare + POINTER, "bytes")
 
 
 def main():
-    proved = "--unproved" not in sys.argv[1:]
-    programs.with_rt()
+    timing.needs("rt")
     with tempfile.TemporaryDirectory(prefix="tree_bench") as folder:
-        run = runner(folder, proved)
-        program = os.path.join(folder, "crates", "tree_bench", "out", "tree_bench")
-        counts = {}
-        seen = {length: [] for length in LENGTHS}
-        for _ in range(ROUNDS):
-            for length in LENGTHS:
-                text = run(length, EDITS, 0, 0)
-                made = re.search(r"list (\d+) (\d+) \d+", text)
-                done = re.search(r"edits (\d+) (\d+) (\d+)", text)
-                near = re.search(r"edits (\d+)", run(length, EDITS, 0, NEAR))
-                seen[length].append((int(made[1]) / length, int(done[1]) / EDITS, int(near[1]) / EDITS))
-                counts[length] = (int(done[2]) / EDITS, int(done[3]))
-        rows = [(length, *(min(times) for times in zip(*seen[length])), *counts[length]) for length in LENGTHS]
-        first = rows[0]
-        print("    items  digits (ratio)  list ns/item  edit ns anywhere (ratio)  near (ratio)  joins/edit  most  bound")
-        for length, made, time, near, joins, most in rows:
-            digits = length.bit_length()
-            print(
-                f"{length:9,}  {digits:6}  ({digits / first[0].bit_length():4.2f})  {made:12.1f}"
-                f"  {time:16.0f}  ({time / first[2]:4.2f})  {near:5.0f} ({near / first[3]:4.2f})"
-                f"  {joins:10.1f}  {most:4}  {12 * digits + 12:5}"
-            )
-        if proved:
-            most = max(LENGTHS)
-            for length in LENGTHS:
-                lists = most // length
-                bare = peak(program, length, 0, lists, 0) / (lists * length) - POINTER
-                whole = peak(program, length, 0, lists, 1) / (lists * length) - POINTER / lists
-                print(f"{length:9,} items: {whole:.1f} bytes an item, {whole - bare:.1f} of them the tree's and not the item's own")
+        if "--unproved" in sys.argv[1:]:
+            crate = timing.written(folder, "tree_bench", "cap_tree", PROGRAM)
+            times(lambda *given: timing.answer(crate, map(str, given)))
+        else:
+            program = timing.build(folder, "tree_bench", "cap_tree", PROGRAM)
+            times(lambda *given: timing.run([program, *map(str, given)], says=True).said)
+            weights(program)
 
 
 main()
