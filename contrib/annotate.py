@@ -32,17 +32,15 @@ LONGEST_EXPLANATION = 100  # lines; the rest of a longer one is left out
 MOST_WORKERS = 4  # runs of `capcheck explain` at the same time: each loads the trace
 
 # Calls whose number arguments are descriptors, and those whose answer is one or two. This is for the page's filter alone.
-TAKES = set(
-    """read readv pread preadv recvfrom recvmsg write writev pwrite pwritev lseek fstat fstatfs fsync fdatasync ftruncate fchmod
-    fchown fchflags fchdir flock fpathconf futimes futimens ioctl accept accept4 bind connect listen shutdown getpeername
-    getsockname getsockopt setsockopt fexecve close closefrom dup dup2 cap_ioctls_limit cap_fcntls_limit cap_rights_limit
-    sendto sendmsg fcntl mmap openat mkdirat mkfifoat mknodat readlinkat futimesat unlinkat fstatat fchmodat fchownat
-    chflagsat utimensat symlinkat renameat linkat @start @foreign @uses @refused""".split()
-)
-MAKES = set(
-    """open openat accept accept4 dup dup2 socket kqueue shm_open mq_open fhopen pipe pipe2 socketpair
-    fcntl,F_DUPFD fcntl,F_DUPFD_CLOEXEC fcntl,F_DUP2FD fcntl,F_DUP2FD_CLOEXEC""".split()
-)
+# tools/calls.py: descriptors
+TAKES = set("""read readv recvfrom recvmsg pread preadv write writev pwrite pwritev lseek fstat fstatfs fsync fdatasync
+    ftruncate fchmod fchown fchflags fchdir flock fpathconf futimes futimens ioctl accept bind connect listen shutdown
+    getpeername getsockname getsockopt setsockopt fexecve close closefrom dup cap_ioctls_limit cap_fcntls_limit sendto
+    sendmsg accept4 dup2 fcntl mmap cap_rights_limit mkdirat mkfifoat mknodat readlinkat futimesat openat unlinkat
+    fstatat fchmodat fchownat chflagsat utimensat symlinkat renameat linkat @start @foreign @uses @refused""".split())
+MAKES = set("accept dup accept4 dup2 open openat socket socketpair pipe2 pipe kqueue shm_open mq_open fhopen".split())
+# end
+MAKES.update(f"fcntl,{command}" for command in ("F_DUPFD", "F_DUPFD_CLOEXEC", "F_DUP2FD", "F_DUP2FD_CLOEXEC"))
 QUOTED = re.compile(r'"(?:[^"\\]|\\.)*"')
 LINE = re.compile(r"([0-9]+) (@?[a-z_][a-z0-9_]*)\((.*)\)(?: RET (.*))?", re.S)
 REFUSED_BY_KERNEL = re.compile(rb"\) RET -1 errno (93|94)$")

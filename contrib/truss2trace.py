@@ -310,8 +310,6 @@ def two_paths(args, _):
     return [path(old), path(new)], []
 
 
-AT_CALLS = set("""openat mkdirat mkfifoat mknodat readlinkat futimesat unlinkat fstatat fchmodat fchownat chflagsat utimensat
-symlinkat renameat linkat""".split())
 ACCESS = {"O_RDONLY", "O_WRONLY", "O_RDWR", "O_EXEC", "O_SEARCH", "O_PATH"}
 
 
@@ -371,32 +369,41 @@ def nothing(args, _):
     return [], []
 
 
+READERS = (
+    # tools/calls.py: readers
+    ("""read readv recvfrom recvmsg pread preadv write writev pwrite pwritev lseek fstat fstatfs fsync fdatasync
+        ftruncate fchmod fchown fchflags fchdir flock fpathconf futimes futimens ioctl accept bind connect listen
+        shutdown getpeername getsockname getsockopt setsockopt fexecve close closefrom dup cap_ioctls_limit
+        cap_fcntls_limit""", one_descriptor),
+    ("""execve access chdir chflags chmod chown lchown lstat mkdir mkfifo mknod readlink rmdir stat statfs truncate
+        unlink""", one_path),
+    ("link rename symlink", two_paths),
+    ("mkdirat mkfifoat mknodat readlinkat futimesat", at_path),
+    ("openat unlinkat fstatat fchmodat fchownat chflagsat utimensat", at_path_flags),
+    ("pipe kqueue shm_open mq_open fhopen fork vfork pdfork cap_enter", nothing),
+    # end
+)
 FORMS = {
+    **{name: reader for names, reader in READERS for name in names.split()},
     "sendto": sendto, "sendmsg": sendmsg, "accept4": last_flags, "dup2": two_descriptors, "fcntl": fcntl, "mmap": mmap,
     "cap_rights_limit": limit, "closefrom": closefrom, "open": open_, "openat": openat, "symlinkat": symlinkat,
     "renameat": at_two_paths, "linkat": linkat, "socket": socket, "socketpair": socket, "pipe2": pipe2,
 }
-for words, form in (
-    ("""read readv pread preadv recvfrom recvmsg write writev pwrite pwritev lseek fstat fstatfs fsync fdatasync ftruncate
-     fchmod fchown fchflags fchdir flock fpathconf futimes futimens ioctl accept bind connect listen shutdown getpeername
-     getsockname getsockopt setsockopt fexecve close dup cap_ioctls_limit cap_fcntls_limit""", one_descriptor),
-    ("""execve access chdir chflags chmod chown lchown lstat mkdir mkfifo mknod readlink rmdir stat statfs truncate
-     unlink""", one_path),
-    ("link rename symlink", two_paths),
-    ("mkdirat mkfifoat mknodat readlinkat futimesat", at_path),
-    ("unlinkat fstatat fchmodat fchownat chflagsat utimensat", at_path_flags),
-    ("pipe kqueue shm_open mq_open fhopen fork vfork pdfork cap_enter", nothing),
-):
-    for word in words.split():
-        FORMS[word] = form
 
 LIMITS = {"cap_rights_limit", "cap_ioctls_limit", "cap_fcntls_limit"}
-ZERO = {"close", "closefrom", "cap_enter"} | EXECS | LIMITS
-MADE = set("open openat accept accept4 dup socket kqueue shm_open mq_open fhopen".split())  # these take the lowest free number
+
+# Calls that answer 0, a descriptor with the lowest free number, or two descriptors; and those at a directory.
+# tools/calls.py: answers
+ZERO = set("fexecve close closefrom cap_ioctls_limit cap_fcntls_limit cap_rights_limit execve cap_enter".split())
+MADE = set("accept dup accept4 open openat socket kqueue shm_open mq_open fhopen".split())
+PAIRS = set("socketpair pipe2 pipe".split())
+AT_CALLS = set("""mkdirat mkfifoat mknodat readlinkat futimesat openat unlinkat fstatat fchmodat fchownat chflagsat
+    utimensat symlinkat renameat linkat""".split())
+# end
+
 SECOND = {"dup2", "F_DUP2FD", "F_DUP2FD_CLOEXEC"}
 COPIES = {"dup", "F_DUPFD", "F_DUPFD_CLOEXEC"}
 COPYING = COPIES | SECOND
-PAIRS = {"pipe", "pipe2", "socketpair"}
 
 # Calls without a form whose answer is a descriptor.
 OTHERS_MADE = set("kqueuex shm_open2 posix_openpt sctp_peeloff timerfd_create inotify_init1 __specialfd fcntl".split())
@@ -408,25 +415,33 @@ IOCTL = re.compile("(?:TIOC|FIO|SIOC|BIOC|DIOC|MTIOC|CDIOC|CIOC|CONS_|KD|VT_|SND
 # What a kernel demands of a call that succeeded. tests/kernel.tsv says where each line is from; what that has from
 # memory is untested on FreeBSD. A line has the arguments of its calls, the rights that are needed of a descriptor
 # among them (a star is the call's name; where none is named it has to be open), and where capability mode forbids the
-# calls. RULES is what capcheck's rules say themselves. NEEDS is the rest, with the first and the last kernel and how
-# sure it is: SURE is 0.95 or more there, MIDDLE 0.80 or more, and SILENT what a kernel refuses without an error.
+# calls. RULES is what capcheck's rules say themselves, by any name of a right. NEEDS is the rest, by single rights,
+# with the first and the last kernel and how sure it is: SURE is 0.95 or more there, MIDDLE 0.80 or more, and SILENT
+# what a kernel refuses without an error.
 
 SURE, MIDDLE, SILENT, RULED = "sure", "middle", "silent", "by capcheck's rules"
 KERNELS = (12, 13, 14, 15)  # 12.2, 13.2-p4, 14.0, 15.0
 KERNEL = 14  # where none is named
 
 RULES = (
+    # tools/calls.py: demands
     ("FD,..", "FD:READ", "", "read readv recvfrom recvmsg"),
-    ("FD,..", "FD:READ SEEK", "", "pread preadv"),
+    ("FD,..", "FD:PREAD", "", "pread preadv"),
     ("FD,..", "FD:WRITE", "", "write writev"),
-    ("FD,..", "FD:WRITE SEEK", "", "pwrite pwritev"),
+    ("FD,..", "FD:PWRITE", "", "pwrite pwritev"),
     ("FD,..", "FD:SEEK", "", "lseek"),
+    ("FD,..", "FD:*", "", """fstat fstatfs ftruncate fchmod fchown fchflags fchdir flock fpathconf ioctl bind connect
+        listen shutdown getpeername getsockname getsockopt setsockopt fexecve"""),
     ("FD,..", "FD:FSYNC", "", "fsync fdatasync"),
     ("FD,..", "FD:FUTIMES", "", "futimes futimens"),
-    ("FD,..", "FD:*", "", """fstat fstatfs ftruncate fchmod fchown fchflags fchdir flock fpathconf ioctl accept bind
-     connect listen shutdown getpeername getsockname getsockopt setsockopt fexecve"""),
-    ("FD,..", "FD:ACCEPT", "", "accept4"),
-    ("FD,..", "FD:", "", "close dup dup2 cap_ioctls_limit cap_fcntls_limit"),
+    ("FD,..", "FD:ACCEPT", "", "accept accept4"),
+    ("FD,..", "FD:", "", "close dup cap_ioctls_limit cap_fcntls_limit dup2"),
+    ("DIR,PATH,..", "DIR:*", "AT_FDCWD", "mkdirat mkfifoat mknodat unlinkat fstatat fchmodat fchownat chflagsat"),
+    ("DIR,PATH,..", "DIR:LOOKUP", "AT_FDCWD", "readlinkat"),
+    ("DIR,PATH,..", "DIR:FUTIMESAT", "AT_FDCWD", "futimesat utimensat"),
+    ("PATH,..", "", "forbidden", """open execve access chdir chflags chmod chown lchown lstat mkdir mkfifo mknod
+        readlink rmdir stat statfs truncate unlink link rename symlink"""),
+    # end
     ("FD,DEST", "FD:WRITE; FD:CONNECT if DEST", "", "sendto sendmsg"),
     ("FD,PROT,FLAGS", "FD:MMAP; FD:READ SEEK if PROT_READ; FD:MMAP_X SEEK if PROT_EXEC; FD:WRITE SEEK if writable", "",
      "mmap"),
@@ -436,18 +451,9 @@ RULES = (
      "openat"),
     ("DIR,PATH,FLAGS", "DIR:CREATE if O_CREAT; DIR:FTRUNCATE if O_TRUNC; DIR:FSYNC if O_SYNC O_FSYNC; "
      "DIR:FLOCK if O_EXLOCK O_SHLOCK", "", "openat"),
-    ("DIR,PATH,..", "DIR:* LOOKUP", "AT_FDCWD", "mkdirat mkfifoat mknodat unlinkat"),
-    ("DIR,PATH,..", "DIR:FSTAT LOOKUP", "AT_FDCWD", "fstatat"),
-    ("DIR,PATH,..", "DIR:FCHMOD LOOKUP", "AT_FDCWD", "fchmodat"),
-    ("DIR,PATH,..", "DIR:FCHOWN LOOKUP", "AT_FDCWD", "fchownat"),
-    ("DIR,PATH,..", "DIR:FCHFLAGS LOOKUP", "AT_FDCWD", "chflagsat"),
-    ("DIR,PATH,..", "DIR:FUTIMES LOOKUP", "AT_FDCWD", "futimesat utimensat"),
-    ("DIR,PATH,..", "DIR:LOOKUP", "AT_FDCWD", "readlinkat"),
     ("TARGET,DIR,PATH", "DIR:* LOOKUP", "AT_FDCWD", "symlinkat"),
     ("DIR,PATH,TO,NAME,..", "DIR:LINKAT_SOURCE LOOKUP; TO:LINKAT_TARGET LOOKUP", "AT_FDCWD", "linkat"),
     ("DIR,PATH,TO,NAME", "DIR:RENAMEAT_SOURCE LOOKUP; TO:RENAMEAT_TARGET LOOKUP", "AT_FDCWD", "renameat"),
-    ("PATH,..", "", "forbidden", """open execve access chdir chflags chmod chown lchown lstat mkdir mkfifo mknod
-     readlink rmdir stat statfs truncate unlink link rename symlink"""),
 )
 NEEDS = (
     ("DIR,PATH,FLAGS", "DIR:SEEK if overwrites", "", 12, 15, SURE, "openat"),
@@ -1243,11 +1249,17 @@ def right_of(name):
     return re.sub("^__|^sctp_|_fd$", "", name).upper()
 
 
-def part_of(text, name):
+def singles(names):
+    """The single rights that names stand for."""
+    return frozenset().union(*(SEVERAL.get(name, name).split() for name in names))
+
+
+def part_of(text, name, kind):
     """An argument, the rights that are needed of it, and when: FD:READ SEEK if PROT_READ"""
     operand, _, rest = text.partition(":")
     rights, _, when = rest.partition("if ")
-    return operand, frozenset(rights.replace("*", right_of(name)).split()), when
+    names = frozenset(rights.replace("*", right_of(name)).split())
+    return operand, singles(names) if kind == RULED else names, when
 
 
 @functools.cache
@@ -1257,7 +1269,7 @@ def rows_of(kernel):
     ruled = [(arguments, rights, mode, 12, 15, RULED, calls) for arguments, rights, mode, calls in RULES]
     for arguments, rights, mode, first, last, kind, calls in [*ruled, *NEEDS]:
         for name in calls.split() if first <= kernel <= last else ():
-            parts = [part_of(text, name) for text in rights.split("; ") if text]
+            parts = [part_of(text, name, kind) for text in rights.split("; ") if text]
             rows[name].append(Row(arguments.split(","), parts, mode, kind))
     return dict(rows)
 
@@ -1512,8 +1524,7 @@ class Cell(typing.NamedTuple):
 
     def lacks(self, rights):
         """What is missing of these rights for sure."""
-        rights = frozenset().union(*(SEVERAL.get(name, name).split() for name in rights))
-        return frozenset() if self.rights is None else rights - self.rights
+        return frozenset() if self.rights is None else singles(rights) - self.rights
 
 
 GONE = Cell(frozenset())

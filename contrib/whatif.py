@@ -34,18 +34,16 @@ INVERSE = {"insert": "delete", "delete": "insert", "replace": "replace"}  # the 
 
 # How calls are written, and the calls that are written so: to complete names, and to say what a call's arguments are.
 FORMS = {
-    "(FD)": """read readv pread preadv recvfrom recvmsg write writev pwrite pwritev lseek fstat fstatfs fsync fdatasync
-        ftruncate fchmod fchown fchflags fchdir flock fpathconf futimes futimens ioctl accept bind connect listen shutdown
-        getpeername getsockname getsockopt setsockopt fexecve close closefrom dup cap_ioctls_limit cap_fcntls_limit @foreign""",
-    "(FD) or NAME(FD,DEST)": "sendto sendmsg",
+    # tools/calls.py: forms
+    "(FD)": """read readv recvfrom recvmsg pread preadv write writev pwrite pwritev lseek fstat fstatfs fsync fdatasync
+        ftruncate fchmod fchown fchflags fchdir flock fpathconf futimes futimens ioctl accept bind connect listen
+        shutdown getpeername getsockname getsockopt setsockopt fexecve close closefrom dup cap_ioctls_limit
+        cap_fcntls_limit @foreign""",
     "(FD,FLAGS)": "accept4",
-    "(FD,FD), which answers the second FD": "dup2",
-    "(FD,COMMAND), NAME(FD,F_SETFD,FLAGS), or NAME(FD,F_DUP2FD,FD), which answers the second FD": "fcntl",
-    "(FD,PROTECTION,FLAGS)": "mmap",
     "(FD,RIGHTS)": "cap_rights_limit @uses @refused",
     '("PATH",FLAGS)': "open",
-    '("PATH")': """execve access chdir chflags chmod chown lchown lstat mkdir mkfifo mknod readlink rmdir stat statfs truncate
-        unlink""",
+    '("PATH")': """execve access chdir chflags chmod chown lchown lstat mkdir mkfifo mknod readlink rmdir stat statfs
+        truncate unlink""",
     '("PATH","PATH")': "link rename symlink",
     '(DIR,"PATH")': "mkdirat mkfifoat mknodat readlinkat futimesat",
     '(DIR,"PATH",FLAGS)': "openat unlinkat fstatat fchmodat fchownat chflagsat utimensat",
@@ -54,6 +52,11 @@ FORMS = {
     '(DIR,"PATH",DIR,"PATH",FLAGS)': "linkat",
     "(FLAGS)": "socket socketpair pipe2",
     "()": "pipe kqueue shm_open mq_open fhopen fork vfork pdfork cap_enter @exit @global",
+    # end
+    "(FD) or NAME(FD,DEST)": "sendto sendmsg",
+    "(FD,FD), which answers the second FD": "dup2",
+    "(FD,COMMAND), NAME(FD,F_SETFD,FLAGS), or NAME(FD,F_DUP2FD,FD), which answers the second FD": "fcntl",
+    "(FD,PROTECTION,FLAGS)": "mmap",
     "(FD,FD,..) with rising descriptors": "@start",
 }
 FORM_OF = {name: form for form, names in FORMS.items() for name in names.split()}

@@ -8,7 +8,8 @@
 - Each file and name that CONTRIBUTING.md has in backticks is in some crate or script.
 - Each path that a page has in backticks is there, each method as `Type::method`, and each name as `Definition`, `a_function` or
   `file.rt`: in code, not in a comment. No line of a table has more than 200 characters.
-- docs/RIGHTS.md is what tools/rights_page.py makes.
+- docs/RIGHTS.md is what tools/rights_page.py makes, and what repeats tools/calls.txt is what tools/calls.py writes.
+- The second reading says what each row of tools/calls.txt says, but where that depends on arguments.
 """
 
 import glob
@@ -17,7 +18,11 @@ import re
 import sys
 
 import harness
-from harness import text_of
+import reference
+from harness import ROOT, text_of
+
+sys.path.append(f"{ROOT}/tools")
+import calls
 
 LONGEST = 200  # characters of a line of a table
 PATH = r"`((?:bench|contrib|crates|docs|examples|packaging|tests|tools|\.ci)/[^`\s]*|[A-Z]+\.md|LICENSE|\.gitmessage)`"
@@ -31,6 +36,13 @@ SOURCES = ("crates/*/src/**/*.rt", "crates/*/specs/**/*.antt")
 PROOFS = ("crates/*/proofs/**/*.antt",)
 SCRIPTS = ("contrib/*", "tests/*", "tests/cases/*", "tools/*")
 PAGES = ("*.md", "docs/*.md", "crates/*/*.md")
+ARGUMENTS = {"fd": "3", "dir": "3", "path": '"a"', "flags": "0", "rights": "CAP_READ", "COMMAND..": "F_GETFL"}
+ONE, TWO, PID = "1048575", "1048575,1048575", "99999"
+# The largest answers of each kind, and one that is too large or has too few parts.
+ANSWERS = {
+    "count": (str(2**64 - 1), str(2**64)), "zero": ("0", "1"), "fd": (ONE, "1048576"), "second": ("3", "4"), "fds": (TWO, ONE),
+    "child": (PID, "100000"), "child,fd": (f"{PID},{ONE}", f"{PID},1048576"),
+}
 CODE = re.compile(rf"\n(?={BEGIN}(?:fn|record|abbrev|data|unfoldable) )")  # between declarations
 
 
@@ -209,6 +221,37 @@ def wrong_paths(page, everything):
             yield f"{where}: a line of a table with {len(line)} characters"
 
 
+def arguments_of(row):
+    """Some arguments of a call, by its form. No row is listed by others."""
+    return ",".join(ARGUMENTS[word] for word in re.sub(r"\[.*\]", "", row.form)[1:-1].split(",") if word)
+
+
+def is_read(line):
+    """Whether the second reading reads a line."""
+    try:
+        return bool(reference.read(line))
+    except reference.Refused:
+        return False
+
+
+def reread(row):
+    """What the second reading says in the place of a row: the result, and needs, excuse and class of the first rule."""
+    line = f"1 {row.name}({arguments_of(row)}) RET "
+    results = [what for what, (right, wrong) in ANSWERS.items() if is_read(line + right) and not is_read(line + wrong)]
+    _, name, given, _ = reference.read(line + "-1 errno 1")
+    mode, checks = reference.rule(name, given)
+    return results, [needs for _, needs, _ in checks], [excuse for *_, excuse in checks], mode
+
+
+def differences(row):
+    """The columns of a row of which the second reading says something else. A star says that it depends on arguments."""
+    results, needs, excuses, mode = reread(row)
+    needed = [] if row.needs in "-*" else [reference.rights(names) for names in row.needs.split(",")]
+    excused = needs if row.excuse == "needs" else [None if row.excuse in "-*" else reference.rights(row.excuse)] * len(needs)
+    same = {"result": row.result in results, "needs": needed == needs, "excuse": excused == excuses, "mode": mode == row.mode}
+    return [column for column, is_same in same.items() if not is_same and getattr(row, column) != "*"]
+
+
 class Documents(harness.Test):
     of_program = False
 
@@ -231,3 +274,16 @@ class Documents(harness.Test):
         """docs/RIGHTS.md is up to date."""
         made = harness.run([sys.executable, "tools/rights_page.py", "--print"], encoding="utf-8")
         self.same("docs/RIGHTS.md, which tools/rights_page.py makes", (0, made.out), (made.status, text_of("docs/RIGHTS.md")))
+
+    def test_calls(self):
+        """What repeats the rows of tools/calls.txt is up to date."""
+        made = harness.run([sys.executable, "tools/calls.py", "--check"], encoding="utf-8")
+        self.same("what tools/calls.py writes", harness.Answer(0, "", ""), made)
+
+    def test_second_reading(self):
+        """The second reading says of each call what its row says."""
+        rows = calls.calls_of(calls.rows_of(text_of(calls.CALLS)))
+        for row in rows:
+            self.same(row.name, [], differences(row), "calls")
+        listed = {name for name in (*reference.FORMS, *reference.SPECIAL) if name[0] != "@"}
+        self.same("calls that only a row or the second reading has", set(), listed ^ {row.name for row in rows})

@@ -5,6 +5,7 @@ use Rattle.std.specs.Option.{option_map_or}
 use Rattle.std.specs.Str.{bytes_eq}
 use Rattle.cap_rights.specs.Names.{table}
 use Rattle.cap_rights.specs.Rights.{none, join}
+-- tools/calls.py: variants
 use Rattle.cap_trace.specs.declared.calls.FdCall.{FdCall}
 use Rattle.cap_trace.specs.declared.calls.FdCall.TheVariants.{Read, Readv, Recvfrom, Recvmsg, Pread, Preadv, Write}
 use Rattle.cap_trace.specs.declared.calls.FdCall.TheVariants.{Writev, Pwrite, Pwritev, Lseek, Fstat, Fstatfs, Fsync}
@@ -18,6 +19,7 @@ use Rattle.cap_trace.specs.declared.calls.AtCall.TheVariants.{Mkdirat, Mkfifoat,
 use Rattle.cap_trace.specs.declared.calls.AtFlagsCall.{AtFlagsCall}
 use Rattle.cap_trace.specs.declared.calls.AtFlagsCall.TheVariants.{Openat, Unlinkat, Fstatat, Fchmodat, Fchownat}
 use Rattle.cap_trace.specs.declared.calls.AtFlagsCall.TheVariants.{Chflagsat, Utimensat}
+-- end
 use Rattle.cap_machine.specs.Flags.{has_flag, is_one_of}
 
 -- the rights that a name stands for
@@ -27,6 +29,7 @@ named name = option_map_or (λ row. row.1) (find (λ row. bytes_eq row.0 name) t
 -- ---- calls on one descriptor
 
 unfoldable pub fd_needs : FdCall → ℕ
+-- tools/calls.py: fd_needs
 fd_needs Read = named (codes "CAP_READ")
 fd_needs Readv = named (codes "CAP_READ")
 fd_needs Recvfrom = named (codes "CAP_READ")
@@ -68,14 +71,19 @@ fd_needs Dup = none
 fd_needs CapIoctlsLimit = none
 fd_needs CapFcntlsLimit = none
 
+-- end
+
 -- with these rights errno 93 is wrongful, and of a call without any it isn't judged: other limits exist for ioctl(2)
 -- and for the calls that set them; fexecve(2) may have to read the file that it runs
 unfoldable pub fd_excuse : FdCall → Option ℕ
+-- tools/calls.py: fd_excuse
 fd_excuse Ioctl = None
 fd_excuse CapIoctlsLimit = None
 fd_excuse CapFcntlsLimit = None
 fd_excuse Fexecve = Some (join (named (codes "CAP_FEXECVE")) (named (codes "CAP_READ")))
 fd_excuse call = Some (fd_needs call)
+
+-- end
 
 -- sendto(2), sendmsg(2): without a destination and with one
 unfoldable pub send_needs : ℕ
@@ -124,11 +132,14 @@ accept_needs = named (codes "CAP_ACCEPT")
 -- ---- calls at a directory: of the directory's descriptor
 
 unfoldable pub at_needs : AtCall → ℕ
+-- tools/calls.py: at_needs
 at_needs Mkdirat = named (codes "CAP_MKDIRAT")
 at_needs Mkfifoat = named (codes "CAP_MKFIFOAT")
 at_needs Mknodat = named (codes "CAP_MKNODAT")
 at_needs Readlinkat = named (codes "CAP_LOOKUP")
 at_needs Futimesat = named (codes "CAP_FUTIMESAT")
+
+-- end
 
 -- openat(2): how the file is opened
 unfoldable pub access_needs : List ℕ → ℕ
@@ -153,6 +164,7 @@ openat_needs flags =
     else join (named (codes "CAP_LOOKUP")) (join (access_needs flags) (opening_needs flags))
 
 unfoldable pub at_flags_needs : AtFlagsCall → List ℕ → ℕ
+-- tools/calls.py: at_flags_needs
 at_flags_needs Openat flags = openat_needs flags
 at_flags_needs Unlinkat flags = named (codes "CAP_UNLINKAT")
 at_flags_needs Fstatat flags = named (codes "CAP_FSTATAT")
@@ -160,6 +172,8 @@ at_flags_needs Fchmodat flags = named (codes "CAP_FCHMODAT")
 at_flags_needs Fchownat flags = named (codes "CAP_FCHOWNAT")
 at_flags_needs Chflagsat flags = named (codes "CAP_CHFLAGSAT")
 at_flags_needs Utimensat flags = named (codes "CAP_FUTIMESAT")
+
+-- end
 
 unfoldable pub symlink_needs : ℕ
 symlink_needs = named (codes "CAP_SYMLINKAT")

@@ -9,12 +9,14 @@ use Rattle.cap_trace.specs.Call.{Call}
 use Rattle.cap_trace.specs.Call as calls
 use Rattle.cap_trace.specs.declared.line.Answer.{Answer}
 use Rattle.cap_trace.specs.declared.line.Answer.TheVariants as answers
+-- tools/calls.py: variants
 use Rattle.cap_trace.specs.declared.calls.FdCall.{FdCall}
 use Rattle.cap_trace.specs.declared.calls.FdCall.TheVariants.{Read, Readv, Pread, Preadv, Write, Writev, Pwrite}
 use Rattle.cap_trace.specs.declared.calls.FdCall.TheVariants.{Pwritev, Lseek, Fstat, Fsync, Ftruncate, Close, Closefrom}
 use Rattle.cap_trace.specs.declared.calls.FdCall.TheVariants.{Dup}
 use Rattle.cap_trace.specs.declared.calls.BareCall.{BareCall}
 use Rattle.cap_trace.specs.declared.calls.BareCall.TheVariants.{Fork, CapEnter}
+-- end
 use Rattle.cap_trace.specs.declared.calls.NeedsMarker.{NeedsMarker}
 use Rattle.cap_trace.specs.declared.calls.NeedsMarker.TheVariants.{Uses, Refused}
 use Rattle.cap_trace.specs.Entry.{Entry}
@@ -55,6 +57,7 @@ on_one class check answer = record {
 
 -- capsicum(4) allows these on a descriptor in capability mode
 abbrev pub fd_class : FdCall → Class
+-- tools/calls.py: fd_class
 fd_class Read = Allowed
 fd_class Readv = Allowed
 fd_class Pread = Allowed
@@ -70,6 +73,8 @@ fd_class Ftruncate = Allowed
 fd_class Close = Allowed
 fd_class Dup = Allowed
 fd_class _ = Either
+
+-- end
 
 -- where there is nothing to check
 abbrev pub on_none : Class → Answer → Requirement
@@ -135,9 +140,12 @@ at_requirement is_plain places answer = record {
 -- ---- each form of call
 
 abbrev pub bare_class : BareCall → Class
+-- tools/calls.py: bare_class
 bare_class Fork = Allowed
 bare_class CapEnter = Allowed
 bare_class _ = Either
+
+-- end
 
 abbrev pub call_requirement : Call → Answer → Requirement
 call_requirement (calls.OnFd call f) answer = fd_requirement call f answer

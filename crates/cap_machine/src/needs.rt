@@ -18,6 +18,7 @@ pub(crate) fn fd_needs_of(call: FdCall) -> RightSet
     ensures { result ≡ fd_needs call }
 {
     RightSet::named(match call {
+        // tools/calls.py: fd_needs
         FdCall::Read | FdCall::Readv | FdCall::Recvfrom | FdCall::Recvmsg => RightBits::CAP_READ,
         FdCall::Pread | FdCall::Preadv => RightBits::CAP_PREAD,
         FdCall::Write | FdCall::Writev => RightBits::CAP_WRITE,
@@ -49,7 +50,8 @@ pub(crate) fn fd_needs_of(call: FdCall) -> RightSet
         | FdCall::Closefrom
         | FdCall::Dup
         | FdCall::CapIoctlsLimit
-        | FdCall::CapFcntlsLimit => { RightBits(0) }
+        | FdCall::CapFcntlsLimit => RightBits(0),
+        // end
     })
 }
 
@@ -59,11 +61,13 @@ pub(crate) fn fd_excuse_of(call: FdCall) -> Option<RightSet>
     ensures { result ≡ fd_excuse call }
 {
     match call {
+        // tools/calls.py: fd_excuse
         FdCall::Ioctl | FdCall::CapIoctlsLimit | FdCall::CapFcntlsLimit => None,
         FdCall::Fexecve => {
-            let run = RightSet::named(RightBits::CAP_FEXECVE);
-            Some(run.join(&RightSet::named(RightBits::CAP_READ)))
+            let rights = RightSet::named(RightBits::CAP_FEXECVE);
+            Some(rights.join(&RightSet::named(RightBits::CAP_READ)))
         }
+        // end
         _ => Some(fd_needs_of(call)),
     }
 }
@@ -158,11 +162,13 @@ pub(crate) fn at_needs_of(call: AtCall) -> RightSet
     ensures { result ≡ at_needs call }
 {
     RightSet::named(match call {
+        // tools/calls.py: at_needs
         AtCall::Mkdirat => RightBits::CAP_MKDIRAT,
         AtCall::Mkfifoat => RightBits::CAP_MKFIFOAT,
         AtCall::Mknodat => RightBits::CAP_MKNODAT,
         AtCall::Readlinkat => RightBits::CAP_LOOKUP,
         AtCall::Futimesat => RightBits::CAP_FUTIMESAT,
+        // end
     })
 }
 
@@ -230,6 +236,7 @@ pub(crate) fn at_flags_needs_of(call: AtFlagsCall, flags: &[u8]) -> RightSet
     ensures { result ≡ at_flags_needs call flags.now }
 {
     RightSet::named(match call {
+        // tools/calls.py: at_flags_needs
         AtFlagsCall::Openat => return openat_needs_of(flags),
         AtFlagsCall::Unlinkat => RightBits::CAP_UNLINKAT,
         AtFlagsCall::Fstatat => RightBits::CAP_FSTATAT,
@@ -237,6 +244,7 @@ pub(crate) fn at_flags_needs_of(call: AtFlagsCall, flags: &[u8]) -> RightSet
         AtFlagsCall::Fchownat => RightBits::CAP_FCHOWNAT,
         AtFlagsCall::Chflagsat => RightBits::CAP_CHFLAGSAT,
         AtFlagsCall::Utimensat => RightBits::CAP_FUTIMESAT,
+        // end
     })
 }
 

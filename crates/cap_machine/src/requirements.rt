@@ -25,6 +25,7 @@ fn fd_class_of(call: FdCall) -> Class
     ensures { result ≡ fd_class call }
 {
     match call {
+        // tools/calls.py: fd_class
         FdCall::Read
         | FdCall::Readv
         | FdCall::Pread
@@ -39,6 +40,7 @@ fn fd_class_of(call: FdCall) -> Class
         | FdCall::Ftruncate
         | FdCall::Close
         | FdCall::Dup => Class::Allowed,
+        // end
         _ => Class::Either,
     }
 }
@@ -127,7 +129,9 @@ fn bare_class_of(call: BareCall) -> Class
     ensures { result ≡ bare_class call }
 {
     match call {
+        // tools/calls.py: bare_class
         BareCall::Fork | BareCall::CapEnter => Class::Allowed,
+        // end
         _ => Class::Either,
     }
 }

@@ -37,6 +37,7 @@ pub record Row : Type 0 where
 abbrev pub row : List ℕ → ResultKind → Row
 row n k = record { name = n; kind = k }
 
+-- tools/calls.py: rows
 -- a call whose one argument is a descriptor
 abbrev pub on_fd : FdCall → Row
 on_fd on_fd_calls.Read = row (codes "read") Count
@@ -177,6 +178,8 @@ row_of forms.Foreign = row (codes "@foreign") Zero
 row_of (forms.Needs c) = needs c
 row_of forms.Global = row (codes "@global") Zero
 
+-- end
+
 -- the commands of fcntl that have a form of their own
 abbrev pub dup_command_name : DupCommand → List ℕ
 dup_command_name dup_commands.FDup2fd = codes "F_DUP2FD"
@@ -203,7 +206,7 @@ is_name (c ∷ cs) = is_name_byte c && not (is_ascii_digit c) && list_all is_nam
 -- ---- looking a name up
 
 -- every row's form, from above
--- tools/name_slots.py: forms
+-- tools/calls.py: forms
 unfoldable pub all_forms : List Form
 all_forms =
     forms.OnFd on_fd_calls.Read ∷ forms.OnFd on_fd_calls.Readv ∷ forms.OnFd on_fd_calls.Recvfrom ∷
@@ -240,7 +243,7 @@ all_forms =
     forms.Accept4 ∷ forms.Dup2 ∷ forms.Fcntl ∷ forms.Mmap ∷ forms.RightsLimit ∷ forms.Open ∷ forms.SymlinkAt ∷
     forms.RenameAt ∷ forms.LinkAt ∷ forms.Start ∷ forms.Exit ∷ forms.Foreign ∷ forms.Global ∷ []
 
--- the end of forms
+-- end
 
 -- the form of a name of the table
 abbrev pub form_named : List ℕ → Option Form

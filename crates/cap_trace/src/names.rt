@@ -25,7 +25,7 @@ pub(crate) struct Row(
 );
 
 /// The table.
-// tools/name_slots.py: rows
+// tools/calls.py: rows
 static ROWS: [Row; 101] = [
     Row(b"read", Form::OnFd(FdCall::Read), Count),
     Row(b"readv", Form::OnFd(FdCall::Readv), Count),
@@ -137,9 +137,9 @@ static ROWS: [Row; 101] = [
     Row(b"@foreign", Form::Foreign, Zero),
     Row(b"@global", Form::Global, Zero),
 ];
-// the end of rows
+// end
 
-// tools/name_slots.py: places
+// tools/calls.py: places
 impl Form {
     /// The place of its row in the table.
     #[tactic(auto, unfolding(crate::specs::Names::all_forms))]
@@ -173,7 +173,7 @@ impl Form {
         }
     }
 }
-// the end of places
+// end
 
 /// The row at a place, where there is one.
 #[inline(always)]
@@ -223,9 +223,14 @@ impl FdCall {
         ensures { result ≡ (on_fd self).kind }
     {
         match self {
+            // tools/calls.py: kinds
             FdCall::Accept | FdCall::Dup => Fd,
-            FdCall::Close | FdCall::Closefrom | FdCall::Fexecve => Zero,
-            FdCall::CapIoctlsLimit | FdCall::CapFcntlsLimit => Zero,
+            FdCall::Fexecve
+            | FdCall::Close
+            | FdCall::Closefrom
+            | FdCall::CapIoctlsLimit
+            | FdCall::CapFcntlsLimit => Zero,
+            // end
             _ => Count,
         }
     }
@@ -243,14 +248,14 @@ impl DupCommand {
     }
 }
 
-// tools/name_slots.py: factors
+// tools/calls.py: factors
 const FIRST_FACTOR: u64 = 15740383897854124937;
 
 const LAST_FACTOR: u64 = 12311954015914930279;
-// the end of factors
+// end
 
 /// The number of the form whose name has this slot, or 255.
-// tools/name_slots.py: slots
+// tools/calls.py: slots
 static SLOTS: [u8; 512] = [
     255, 255, 255, 60, 255, 23, 255, 255, 255, 255, 255, 255, 255, 255, 255, 255, 255, 255, 77,
     255, 62, 255, 255, 255, 53, 255, 255, 255, 61, 255, 255, 255, 255, 255, 255, 255, 255, 255,
@@ -280,7 +285,7 @@ static SLOTS: [u8; 512] = [
     255, 87, 255, 255, 255, 255, 255, 255, 255, 255, 52, 255, 65, 255, 9, 255, 68, 255, 255, 255,
     255,
 ];
-// the end of slots
+// end
 
 /// The fewest and the most bytes of a name in the table.
 pub(crate) const SHORTEST_NAME: usize = 3;

@@ -22,7 +22,7 @@ last_word t =
     else from_le_bytes w16 (take 2 (drop (length t - 2) t))
 
 -- by slot, the number of the form in all_forms, or 255
--- tools/name_slots.py: slots
+-- tools/calls.py: slots
 unfoldable pub slots : List ℕ
 slots =
     255 ∷ 255 ∷ 255 ∷ 60 ∷ 255 ∷ 23 ∷ 255 ∷ 255 ∷ 255 ∷ 255 ∷ 255 ∷ 255 ∷ 255 ∷ 255 ∷ 255 ∷ 255 ∷ 255 ∷
@@ -56,15 +56,15 @@ slots =
     255 ∷ 87 ∷ 255 ∷ 255 ∷ 255 ∷ 255 ∷ 255 ∷ 255 ∷ 255 ∷ 255 ∷ 52 ∷ 255 ∷ 65 ∷ 255 ∷ 9 ∷ 255 ∷ 68 ∷ 255 ∷
     255 ∷ 255 ∷ 255 ∷ []
 
--- the end of slots
+-- end
 
 -- the slot of a name of 3 to 16 bytes, by its two words
--- tools/name_slots.py: slot by the two words
+-- tools/calls.py: slot by the two words
 abbrev pub slot_by : ℕ → ℕ → ℕ
 slot_by first last =
     ((first * 15740383897854124937) % 2 ^ 64 + (last * 12311954015914930279) % 2 ^ 64) % 2 ^ 64 / 2 ^ 55
 
--- the end of slot by the two words
+-- end
 
 abbrev pub slot_at : List ℕ → ℕ
 slot_at name = slot_by (first_word name) (last_word name)
