@@ -24,7 +24,7 @@ import timing
 import traces
 
 ROUNDS = 5
-USES = "cap_session cap_summary cap_tree cap_machine cap_trace cap_rights"
+USES = "cap_session cap_summary cap_tree cap_limits cap_machine cap_trace cap_rights"
 FIRST = ["1 @start(0)", "1 cap_rights_limit(0,CAP_READ) RET 0", "1 fork() RET 2"]
 LAST = "2 write(0) RET 1"
 

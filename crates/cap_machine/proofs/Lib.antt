@@ -32,26 +32,6 @@ pub mod Provenances
 pub mod Passages
 pub mod Walking
 pub mod ModeMatters
-mod LineRules
 pub mod CellChains
 pub mod ModeChains
 pub mod Explained
-pub mod LimitBits
-pub mod LimitFindings
-pub mod LimitEnter
-pub mod LimitLeast
-pub mod LimitBeside
-pub mod LimitEnough
-pub mod LimitSets
-pub mod LimitPlaces
-pub mod LimitScripts
-pub mod JoinedRights
-pub mod LiveBack
-pub mod BlockedBack
-pub mod MakerLimits
-pub mod RowOrder
-pub mod LeastRows
-pub mod AroundExec
-pub mod StandingBack
-pub mod StandingRows
-pub mod UnknownRows

@@ -45,7 +45,7 @@ use Rattle.cap_machine.specs.Touch.{at_touch, flags_touch, fork_touch, pdfork_to
 use Rattle.cap_machine.specs.Effect.{effect_touch}
 use Rattle.cap_machine.specs.Named.{dir_names, arg_names, answer_names, item_answer_names, is_fork, answer_makes}
 use Rattle.cap_machine.specs.Named.{item_makes, is_whole_call, is_whole_item}
-use Rattle.cap_machine.specs.Code.Wanted.{is_child}
+use Rattle.cap_machine.specs.Effect.{is_child}
 
 pub itself : (f : ℕ) → (f == f) ≡ true
 itself f = eq-eqb f f refl

@@ -19,7 +19,7 @@ use Rattle.cap_machine.specs.Touch.{kept, stays, Turn, succeeded, call_turn, ite
 use Rattle.cap_machine.specs.Effect.{effect_touch}
 use Rattle.cap_machine.specs.Named.{arg_names, item_answer_names, is_fork, answer_makes, item_makes, is_whole_item}
 use Rattle.cap_machine.specs.Named.{OwnProcesses, OwnModes, NamedDescriptors}
-use Rattle.cap_machine.specs.Code.Wanted.{is_child}
+use Rattle.cap_machine.specs.Effect.{is_child}
 use Rattle.cap_machine.proofs.LineEffects.{FdsNamed, IsSingle, item_done}
 
 -- ---- another process

@@ -13,13 +13,13 @@ use Rattle.cap_machine.specs.Code.Checked.{CheckerState, IsAsked}
 use Rattle.cap_machine.specs.Code.Known.{known}
 use Rattle.cap_machine.specs.Steps.{step, steps}
 use Rattle.cap_machine.specs.State.{State}
-use Rattle.cap_machine.specs.History.{ended, told}
+use Rattle.cap_machine.specs.History.{ended, told, step_after}
 use Rattle.cap_machine.specs.Check.{found_at}
 use Rattle.cap_machine.specs.Report.{finding_line}
 use Rattle.cap_machine.specs.Denials.{denied_at}
 use Rattle.cap_machine.specs.DenialReport.{denial_line}
 use Rattle.cap_machine.specs.Questions.{answer_count, answer_lines, line_count, line_text, LineHasNoEntry}
-use Rattle.cap_machine.specs.Code.Table.{state_of, Keeps, step_after}
+use Rattle.cap_machine.specs.Code.Table.{state_of, Keeps}
 use Rattle.cap_machine.specs.State.{start_state}
 use Rattle.cap_machine.proofs.KnownTables.{state_known}
 use Rattle.cap_machine.proofs.Turns.{ends_more, same_state, told_more}

@@ -25,8 +25,7 @@ use Rattle.cap_machine.specs.State.{State}
 use Rattle.cap_machine.specs.Steps.{step, steps}
 use Rattle.cap_machine.specs.Touch.{succeeded, exec_touch, closefrom_touch, fd_touch, path_touch, call_touch}
 use Rattle.cap_machine.specs.Touch.{item_touch}
-use Rattle.cap_machine.specs.History.{after, touched}
-use Rattle.cap_machine.specs.Code.Table.{step_after}
+use Rattle.cap_machine.specs.History.{after, touched, step_after}
 use Rattle.cap_machine.specs.Check.{findings, said, found_at, check}
 use Rattle.cap_machine.specs.Report.{report_line, line_about, last_line}
 use Rattle.cap_machine.specs.ProfileLaws.{is_exec, is_closefrom, item_did, did, Never, ProfilesAgree}

@@ -5,7 +5,7 @@ use Rattle.std.proofs.lemmas.List.{map-append, take_more}
 use Rattle.cap_machine.specs.declared.cell.Cell.{Cell}
 use Rattle.cap_machine.specs.declared.start.Entry.{Entry}
 use Rattle.cap_machine.specs.Code.Starts.{added_by}
-use Rattle.cap_machine.specs.Standing.{last_cells}
+use Rattle.cap_machine.specs.State.{last_cells}
 use Rattle.cap_machine.specs.State.{State, Added, with_listed, with_all, usual}
 use Rattle.cap_machine.specs.State.{start_state}
 

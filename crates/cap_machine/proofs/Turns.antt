@@ -11,8 +11,7 @@ use Rattle.cap_machine.specs.declared.verdict.Finding.{Finding}
 use Rattle.cap_machine.specs.declared.denial.Denial.{Denial}
 use Rattle.cap_machine.specs.declared.denial.Denied.{Denied}
 use Rattle.cap_machine.specs.State.{State}
-use Rattle.cap_machine.specs.History.{after, ended, told}
-use Rattle.cap_machine.specs.Code.Table.{step_after}
+use Rattle.cap_machine.specs.History.{after, ended, told, step_after}
 use Rattle.cap_machine.specs.Check.{said, found_at}
 use Rattle.cap_machine.specs.Denials.{denied, denied_at}
 use Rattle.cap_machine.specs.Laws.{later, EndsInTurn, ChecksInTurn, ChecksOneMore}

@@ -1,8 +1,5 @@
 -- What values of the code mean, and what parts of a call do. The definitions beside this folder rest on nothing here.
 pub mod PlaceView
-pub mod Wanted
-pub mod LiveRights
-pub mod Unknown
 pub mod Composed
 pub mod Cells
 pub mod Table
@@ -14,5 +11,3 @@ pub mod Passages
 pub mod Walks
 pub mod Following
 pub mod MayHave
-pub mod Rows
-pub mod Singles

@@ -43,6 +43,12 @@ effect_turn (Give g c) me p = stays
 effect_turn (GiveTwo g h c) me p = stays
 effect_turn (Change g op h) me p = stays
 
+-- the child that an effect makes
+abbrev pub is_child : Effect → ℕ → Bool
+is_child (Fork child) p = p == child
+is_child (ForkAs child g) p = p == child
+is_child effect p = false
+
 -- it makes no child, and leaves something of its process known
 abbrev pub IsOwn : Effect → Type 0
 IsOwn Exit = ⊥

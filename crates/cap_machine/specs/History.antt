@@ -19,6 +19,13 @@ turned stays before p = before p
 turned (turns m) before p = m
 turned (follows q) before p = before q
 
+-- the state after one step
+abbrev pub step_after : Step → State → State
+step_after step s = record {
+  cell = λ p f. touched (touch step p f) s.cell p f;
+  mode = λ p. turned (turn step p) s.mode p;
+}
+
 abbrev pub cell_after : State → List Step → ℕ → ℕ → Cell
 cell_after s [] p f = s.cell p f
 cell_after s (step ∷ history) p f = touched (touch step p f) (cell_after s history) p f

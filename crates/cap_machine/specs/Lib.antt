@@ -16,12 +16,6 @@ pub mod DenialReport
 pub mod DenialLaws
 pub mod Questions
 pub mod Laws
-pub mod Live
-pub mod Standing
-pub mod Limits
-pub mod LimitsBefore
-pub mod Makers
-pub mod LimitLaws
 pub mod ProfileLaws
 pub mod Named
 pub mod Effect

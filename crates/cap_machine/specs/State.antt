@@ -26,6 +26,11 @@ pub record Added : Type 0 where
   pub rest : Cell
   pub cells : List (ℕ × Cell)
 
+-- the cells that are listed of process p, and else these: of a process that was added twice the last time counts
+abbrev pub last_cells : List (ℕ × Cell) → List Added → ℕ → List (ℕ × Cell)
+last_cells cells [] p = cells
+last_cells cells (next ∷ more) p = last_cells (if p == next.pid then next.cells else cells) more p
+
 -- process p has this mode and these cells, and all else is as before
 abbrev pub with_listed : State → ℕ → Mode → Cell → List (ℕ × Cell) → State
 with_listed s me m rest cells = record {

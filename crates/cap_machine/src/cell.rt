@@ -1,7 +1,7 @@
 //! What is known of a descriptor and of a process, and what can become of it.
 
 ghost use Rattle.std.specs.Prelude.{◌≡◌};
-ghost use Rattle.cap_rights.specs.Rights.{without_full, named as all_named};
+ghost use Rattle.cap_rights.specs.Rights.{named as all_named};
 ghost use Rattle.cap_machine.specs.Op.{held, held_op, applied, keeping, marking, derive, copy_to_itself, limit, narrow};
 ghost use Rattle.cap_machine.specs.Op.{same, exec, set_flag, narrow_and_set_flag};
 
@@ -118,13 +118,6 @@ fn all_by_name() -> RightSet
     RightSet::named(RightBits(u64::MAX >> 1))
 }
 
-/// The set without FULL: what is left of it for a descriptor that was limited.
-pub(crate) fn without_full_of(rights: &RightSet) -> RightSet
-    ensures { result ≡ without_full rights.now }
-{
-    rights.meet(&all_by_name())
-}
-
 impl Op {
     /// A held cell stays held and keeps its flag; a mask takes rights away.
     fn keeping(unknown: Cell, closed: Cell, mask: &Option<RightSet>) -> Op
@@ -184,7 +177,7 @@ impl Op {
     pub fn limit(asked: &RightSet) -> Op
         ensures { result ≡ limit asked.now }
     {
-        let left = without_full_of(asked);
+        let left = asked.without_full();
         let unknown = Cell::Held(left, OnExec::Unsure);
         let closed = Cell::Held(left, OnExec::Unsure);
         Op::keeping(unknown, closed, &Some(*asked))

@@ -3,7 +3,8 @@
 ghost use Rattle.std.specs.Prelude.{◌≡◌, ◌++◌, map, IfOk, OnOk};
 ghost use Rattle.cap_machine.specs.Steps.{step, steps};
 ghost use Rattle.cap_machine.specs.Check.{check, said, found_at};
-ghost use Rattle.cap_machine.specs.Code.Table.{Keeps, state_of, step_after};
+ghost use Rattle.cap_machine.specs.Code.Table.{Keeps, state_of};
+ghost use Rattle.cap_machine.specs.History.{step_after};
 ghost use Rattle.cap_machine.specs.State.{start_state};
 
 use crate::cell::Profile;

@@ -6,7 +6,8 @@ ghost use Rattle.cap_machine.specs.Steps.{step, steps};
 ghost use Rattle.cap_machine.specs.Rule.{requirement};
 ghost use Rattle.cap_machine.specs.State.{State};
 ghost use Rattle.cap_machine.specs.Denials.{denials, denied, denied_of, denied_at};
-ghost use Rattle.cap_machine.specs.Code.Table.{Keeps, state_of, step_after};
+ghost use Rattle.cap_machine.specs.Code.Table.{Keeps, state_of};
+ghost use Rattle.cap_machine.specs.History.{step_after};
 ghost use Rattle.cap_machine.specs.State.{start_state};
 
 use crate::cell::Profile;

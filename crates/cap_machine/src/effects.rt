@@ -161,8 +161,8 @@ fn changed(fd: Fd, op: Op, answer: &Answer) -> Effect<'static>
     }
 }
 
-/// close(2).
-pub(crate) fn closed(fd: Fd, answer: &Answer) -> Effect<'static>
+/// What close(2) of a descriptor does that answered this.
+pub fn effect_of_close(fd: Fd, answer: &Answer) -> Effect<'static>
     ensures cells { (me p f : ℕ) → effect_touch result me p f ≡ on_fd fd (closing answer.now) me p f }
     ensures modes { (me p : ℕ) → effect_turn result me p ≡ stays }
     ensures single { IsFd fd → OnlyCells result }
@@ -200,9 +200,9 @@ fn closed_from(profile: Profile, fd: Fd, answer: &Answer) -> Effect<'static>
     }
 }
 
-/// Whether a call on one descriptor changes no descriptor, whatever it answers. Conservative: `false` may be wrong.
+/// Whether a call on one descriptor changes no cell, whatever it answers. Conservative: `false` may be wrong.
 #[inline(always)]
-pub(crate) fn keeps_all(call: FdCall) -> bool
+pub fn keeps_cells(call: FdCall) -> bool
     ensures { IsTrue result → (profile : Profile) (fd : ℕ) (answer : Answer) (me p f : ℕ)
         → fd_touch profile call fd answer me p f ≡ kept }
 {
@@ -229,7 +229,7 @@ fn fd_effect(profile: Profile, call: FdCall, fd: Fd, answer: &Answer) -> Effect<
     ensures tables { is_on_table result ≡ true → is_whole_call (calls.OnFd call fd) ≡ true }
 {
     match call {
-        FdCall::Close => closed(fd, answer),
+        FdCall::Close => effect_of_close(fd, answer),
         FdCall::Closefrom => closed_from(profile, fd, answer),
         FdCall::Dup => copied_from(fd, OnExec::Clear, answer),
         FdCall::Accept => made(answer, Cell::Unknown),
@@ -415,12 +415,15 @@ fn effect_of(profile: Profile, call: &Call<'_>, answer: &Answer) -> Effect<'stat
     }
 }
 
-/// What a line does in a profile.
+/// What a line does in a profile, by what it records, whatever is said of it.
 #[inline(always)]
-pub(crate) fn effect_of_line<'a>(profile: Profile, line: &LineRef<'a>) -> Effect<'a>
+pub fn effect_of_line<'a>(profile: Profile, line: &LineRef<'a>) -> Effect<'a>
+    // It does to each cell and to each mode what the line does.
     ensures cells { (p f : ℕ) → effect_touch result line.now.pid p f ≡ touch (step profile line.now) p f }
     ensures modes { (p : ℕ) → effect_turn result line.now.pid p ≡ turn (step profile line.now) p }
+    // No descriptor that it writes, or closes from, is above the largest.
     ensures within { IsWithin result }
+    // It hands a table of cells on, or closes all from a descriptor on, only for a call that may do that.
     ensures tables { is_on_table result ≡ true → is_table_step (step profile line.now) ≡ true }
 {
     match &line.item {

@@ -37,12 +37,7 @@ mod errno;
 mod explaining;
 mod flags;
 mod laws;
-mod limit;
-mod limit_laws;
-mod limits;
-mod live;
 mod machine;
-mod makers;
 mod needs;
 mod places;
 mod provenance;
@@ -52,12 +47,10 @@ mod report;
 mod requirements;
 mod rule;
 mod rules;
-mod standing;
 mod start;
 mod step;
 mod table;
 mod touched;
-mod unknown;
 mod verdict;
 mod walks;
 
@@ -71,20 +64,13 @@ pub use denial_laws::{
     lacking_rights_are_what_to_add, refused_lines_are_denied, wrong_refusals_are_unexplained,
 };
 pub use denying::denials;
+pub use effects::{effect_of_close, effect_of_line, keeps_cells};
 pub use explaining::{Explanation, explain};
 pub use laws::{
     no_alarm_lost, positions_are_within, profiles_agree, rules_name_what_stands_there,
     touches_what_it_names, traces_in_turn,
 };
-pub use limit::{Limit, limits_among};
-pub use limit_laws::{
-    all_limits_are_enough, all_limits_are_least, blocked_is_forbidden, limits_are_enough,
-    limits_are_least,
-};
-pub use limits::{Entering, Limits, LimitsBefore, limits_before, live_after, machine_after};
-pub use live::LiveRights;
 pub use machine::Machine;
-pub use makers::{MakerLimit, MakerRow, limits_of_makers};
 pub use provenance::{CellEnd, CellLink, CellProvenance, ModeEnd, ModeLink, ModeProvenance};
 pub use provenance_laws::{
     chains_are_enough, chains_skip_no_line, mode_matters_where_it_decides, named_lines_matter,
@@ -93,9 +79,9 @@ pub use question::Question;
 pub use report::{
     put_count, put_denial, put_denial_count, put_denial_words, put_finding, put_finding_words,
 };
+pub use requirements::{requirement_of_fd_call, requirement_of_line};
 pub use rule::{Check, Checks, Class, Effect, LimitWord, Reply, Requirement, Rule};
 pub use rules::rule_of;
-pub use standing::standing_fds;
 pub use start::Start;
 pub use step::Step;
 pub use touched::{Touched, Turned};

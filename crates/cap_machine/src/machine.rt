@@ -68,15 +68,11 @@ impl Machine {
         ensures { OnOk result
             (start_state self.new ≡ ended (start_state self.old) (step profile line.now ∷ [])) }
     {
-        self.apply_view(profile, &line.view())
+        self.apply_line_ref(profile, &line.view())
     }
 
-    /// Moves on to what is known after a step whose line is borrowed, and judges nothing.
-    pub(crate) fn apply_view(
-        &mut self,
-        profile: Profile,
-        line: &LineRef<'_>,
-    ) -> Result<(), NoMemory>
+    /// The same for a line whose texts lie elsewhere.
+    pub fn apply_line_ref(&mut self, profile: Profile, line: &LineRef<'_>) -> Result<(), NoMemory>
         ensures { OnOk result
             (start_state self.new ≡ ended (start_state self.old) (step profile line.now ∷ [])) }
     {

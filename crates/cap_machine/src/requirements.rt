@@ -13,7 +13,6 @@ ghost use Rattle.cap_machine.specs.Rule.{limit_requirement};
 ghost use Rattle.cap_machine.specs.Rule.{bare_class, at_requirement, call_requirement, requirement, unjudged};
 ghost use Rattle.cap_machine.specs.Rule.{needs_requirement, global_requirement};
 
-use crate::cell::without_full_of;
 use crate::needs;
 use crate::places::{Place, at_one, at_two};
 use crate::rule::{Check, Checks, Class, LimitWord, Reply, Requirement, reply_of};
@@ -77,10 +76,10 @@ fn unchecked(class: Class, answer: &Answer) -> Requirement
     }
 }
 
-/// A call whose one argument is a descriptor.
+/// What a call is judged by whose one argument is a descriptor, and that answered this.
 // Inlined: a large value that is returned is copied by each function that it goes through.
 #[inline(always)]
-pub(crate) fn fd_requirement_of(call: FdCall, fd: Fd, answer: &Answer) -> Requirement
+pub fn requirement_of_fd_call(call: FdCall, fd: Fd, answer: &Answer) -> Requirement
     ensures { result ≡ fd_requirement call fd answer.now }
 {
     match call {
@@ -116,7 +115,7 @@ fn limit(fd: Fd, asked: &RightSet, answer: &Answer) -> Requirement
         class: Class::Allowed,
         checks: Checks::One(Check {
             fd,
-            needs: without_full_of(asked),
+            needs: asked.without_full(),
             excuse: Some(*asked),
         }),
         reply: reply_of(answer),
@@ -141,7 +140,7 @@ fn requirement_of(call: &Call<'_>, answer: &Answer) -> Requirement
     ensures { result ≡ call_requirement (call_view call.now) answer.now }
 {
     match call {
-        Call::OnFd(call, fd) => fd_requirement_of(*call, *fd, answer),
+        Call::OnFd(call, fd) => requirement_of_fd_call(*call, *fd, answer),
         Call::Send(_, fd) => {
             let send = needs::send_needs_of();
             one(Class::Either, *fd, send, Some(send), answer)
@@ -239,7 +238,7 @@ fn needs_requirement_of(marker: NeedsMarker, fd: Fd, rights: &RightSet) -> Requi
         class: Class::Either,
         checks: Checks::One(Check {
             fd,
-            needs: without_full_of(rights),
+            needs: rights.without_full(),
             excuse: None,
         }),
         reply: match marker {
@@ -264,8 +263,8 @@ fn global_requirement_of() -> Requirement
     }
 }
 
-/// What a line is judged by.
-pub(crate) fn requirement_of_line(line: &LineRef<'_>) -> Requirement
+/// What a line is judged by, in either profile.
+pub fn requirement_of_line(line: &LineRef<'_>) -> Requirement
     ensures { result ≡ requirement line.now }
 {
     match &line.item {

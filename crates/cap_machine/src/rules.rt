@@ -13,7 +13,7 @@ use crate::requirements::requirement_of_line;
 use crate::rule::Rule;
 use cap_trace::LineRef;
 
-/// The rule of a line in a profile.
+/// The rule of a line in a profile: what [`requirement_of_line`] and [`effect_of_line`](crate::effect_of_line) answer.
 ///
 /// The requirement follows rights(4) and cap_enter(2); the effect follows what the line records, close(2) and
 /// cap_rights_limit(2) among others, whatever is said of the line.
@@ -21,12 +21,10 @@ use cap_trace::LineRef;
 #[inline(always)]
 pub fn rule_of<'a>(profile: Profile, line: &LineRef<'a>) -> Rule<'a>
     ensures requirement { result.requirement ≡ requirement line.now }
-    // The effect does to each cell and to each mode what the line does.
+    // The effect is that of `effect_of_line`.
     ensures cells { (p f : ℕ) → effect_touch result.effect line.now.pid p f ≡ touch (step profile line.now) p f }
     ensures modes { (p : ℕ) → effect_turn result.effect line.now.pid p ≡ turn (step profile line.now) p }
-    // No descriptor that it writes, or closes from, is above the largest.
     ensures within { IsWithin result.effect }
-    // It hands a table of cells on, or closes all from a descriptor on, only for a call that may do that.
     ensures tables { is_on_table result.effect ≡ true → is_table_step (step profile line.now) ≡ true }
 {
     Rule {

@@ -1,22 +1,17 @@
 //! What is known before the first line of a trace.
 
-ghost use Rattle.std.specs.Prelude.{◌≡◌, ◌≤◌, ℕ, ◌==◌, OnOk, OnErr, [], ◌∷◌, ◌++◌, ◌||◌, map};
-ghost use Rattle.std.specs.List.{All, list_any};
+ghost use Rattle.std.specs.Prelude.{◌≡◌, ◌≤◌, OnOk, OnErr, [], ◌∷◌, ◌++◌, map};
+ghost use Rattle.std.specs.List.{All};
 ghost use Rattle.cap_trace.specs.Entry.{IsFd};
 ghost use Rattle.cap_trace.specs.Limits.{largest_pid};
-ghost use Rattle.cap_machine.specs.declared.cell.Cell.{Cell};
 ghost use Rattle.cap_machine.specs.Code.Starts.{added_by};
-ghost use Rattle.cap_machine.specs.Standing.{start_lists, last_cells};
-ghost use Rattle.cap_machine.specs.Code.Singles.{has_fd};
-ghost use Rattle.cap_machine.specs.State.{usual, with_listed};
-ghost use Rattle.cap_machine.specs.State.{start_state};
+ghost use Rattle.cap_machine.specs.State.{last_cells, start_state, usual, with_listed};
 
 use crate::cell::{Cell, Mode};
 use crate::table::Table;
 use cap_rights::NoMemory;
 use cap_trace::{Fd, Pid};
 use std::alloc::Global;
-use std::collections::BTreeSet;
 use std::marker::Model;
 
 /// What was added of one process.
@@ -35,17 +30,6 @@ struct Entry {
 pub struct Start {
     added: Vec<Entry>,
     pub(crate) table: Table,
-}
-
-/// Adds descriptors that are listed with their cells.
-fn add_listed(fds: &mut BTreeSet<Fd>, cells: &[(Fd, Cell)]) -> Result<(), NoMemory>
-    ensures { OnOk result ((f : ℕ) → has_fd fds.new f
-        ≡ (list_any (λ (entry : ℕ × Cell). f == entry.0) cells.now || has_fd fds.old f)) }
-{
-    for entry in cells {
-        fds.insert(entry.0)?;
-    }
-    Ok(())
 }
 
 /// The cells that the last of these entries of a process lists; none where it has no entry.
@@ -123,11 +107,11 @@ impl Start {
         Ok(())
     }
 
-    /// Adds the descriptors that it lists for a process: those of the last time that it was added.
-    pub(crate) fn add_listed(&self, pid: Pid, fds: &mut BTreeSet<Fd>) -> Result<(), NoMemory>
-        ensures { OnOk result ((f : ℕ) → has_fd fds.new f ≡ (start_lists self.now pid f || has_fd fds.old f)) }
+    /// The cells that it lists for a process: those of the last time that the process was added, none where it wasn't.
+    pub fn listed(&self, pid: Pid) -> &[(Fd, Cell)]
+        ensures { result.now ≡ last_cells [] self.now pid }
     {
-        add_listed(fds, last_listed(&self.added, pid))
+        last_listed(&self.added, pid)
     }
 
     /// What is known of a descriptor of a process.

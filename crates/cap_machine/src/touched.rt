@@ -8,8 +8,8 @@ ghost use Rattle.cap_machine.specs.Effect.{effect_touch, effect_turn};
 ghost use Rattle.cap_machine.specs.Code.Touched.{touch_view, turn_view};
 
 use crate::cell::{Cell, Mode, OnExec, Op, Profile};
+use crate::effects::effect_of_line;
 use crate::rule::Effect;
-use crate::rules::rule_of;
 use cap_rights::RightSet;
 use cap_trace::{Fd, Line, Pid, has_fd};
 
@@ -90,14 +90,12 @@ impl Effect<'_> {
 pub(crate) fn touch_of(profile: Profile, line: &Line, pid: Pid, fd: Fd) -> Touched
     ensures { touch_view line.now.pid result ≡ touch (step profile line.now) pid fd }
 {
-    rule_of(profile, &line.view())
-        .effect
-        .touch(line.pid(), pid, fd)
+    effect_of_line(profile, &line.view()).touch(line.pid(), pid, fd)
 }
 
 /// What a line does to the mode of one process.
 pub(crate) fn turn_of(profile: Profile, line: &Line, pid: Pid) -> Turned
     ensures { turn_view line.now.pid result ≡ turn (step profile line.now) pid }
 {
-    rule_of(profile, &line.view()).effect.turn(line.pid(), pid)
+    effect_of_line(profile, &line.view()).turn(line.pid(), pid)
 }

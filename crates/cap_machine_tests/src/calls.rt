@@ -2,8 +2,7 @@
 
 use crate::starts::rights_of;
 use cap_machine::{
-    Cell, Checks, Effect, Finding, Mode, OnExec, Profile, Step, Verdict, all_limits_are_enough,
-    all_limits_are_least, blocked_is_forbidden, judge, limits_are_enough, limits_are_least,
+    Cell, Checks, Effect, Finding, Mode, OnExec, Profile, Step, Verdict, effect_of_line, judge,
     no_alarm_lost, positions_are_within, profiles_agree, rule_of, rules_name_what_stands_there,
     touches_what_it_names, traces_in_turn,
 };
@@ -44,7 +43,7 @@ fn a_line_is_judged(rt: HostRuntime) {
 /// Whether a step is an exec in its profile.
 fn is_exec(step: &Step) -> bool {
     matches!(
-        rule_of(step.profile, &step.line.view()).effect,
+        effect_of_line(step.profile, &step.line.view()),
         Effect::Exec
     )
 }
@@ -87,9 +86,4 @@ fn the_laws_are_called() {
     touches_what_it_names();
     rules_name_what_stands_there();
     positions_are_within();
-    limits_are_enough();
-    limits_are_least();
-    blocked_is_forbidden();
-    all_limits_are_enough();
-    all_limits_are_least();
 }

@@ -6,7 +6,7 @@ use cap_machine::{
     Cell, Checker, Checks, Denial, LineDenials, Mode, OnExec, Profile, Start, denials,
     denials_are_within, denials_in_turn, explain, explained_denials_are_right,
     lacking_rights_are_what_to_add, put_denial, put_denial_count, put_denial_words,
-    refused_lines_are_denied, rule_of, wrong_refusals_are_unexplained,
+    refused_lines_are_denied, requirement_of_line, wrong_refusals_are_unexplained,
 };
 use cap_trace::{Line, LineRef, parse_line};
 use std::alloc::Global;
@@ -211,7 +211,7 @@ fn denials_are_written(rt: HostRuntime) {
 
 /// What was lacking for a line that checks one descriptor, in capability mode.
 fn lacking_of(line: &Line, cell: Cell) -> Option<Denial> {
-    let requirement = rule_of(Profile::One, &line.view()).requirement;
+    let requirement = requirement_of_line(&line.view());
     match requirement.checks {
         Checks::One(_) => requirement
             .denials(Mode::Inside, &[cell])

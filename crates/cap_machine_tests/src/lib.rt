@@ -8,8 +8,6 @@ mod denied;
 #[cfg(test)]
 mod explanations;
 #[cfg(test)]
-mod limits;
-#[cfg(test)]
 mod lines;
 #[cfg(test)]
 mod machines;

@@ -4,8 +4,8 @@ use crate::lines::lines_of;
 use crate::starts::{add, readable, rights_of};
 use cap_machine::{
     Cell, CellEnd, CellLink, CellProvenance, CellWalk, Checks, Explanation, Finding, Mode, ModeEnd,
-    ModeLink, ModeProvenance, ModeWalk, OnExec, Op, Profile, Start, Touched, Turned, rule_of,
-    walks_may_leave_out,
+    ModeLink, ModeProvenance, ModeWalk, OnExec, Op, Profile, Start, Touched, Turned,
+    effect_of_line, requirement_of_line, walks_may_leave_out,
 };
 use cap_trace::{Line, parse_line};
 use std::alloc::Global;
@@ -347,7 +347,7 @@ fn mode_of_202(alloc: Global, start: &Start) -> Option<ModeProvenance> {
 /// Whether a line that checks one descriptor, for which the mode doesn't matter, is explained by one cell, with this
 /// finding.
 fn is_explained_by_cells(line: &Line, cells: Vec<CellProvenance>, finding: Finding) -> bool {
-    let requirement = rule_of(Profile::Two, &line.view()).requirement;
+    let requirement = requirement_of_line(&line.view());
     match &requirement.checks {
         Checks::One(_) if cells.len() == 1 && !requirement.mode_matters() => {
             let found = Explanation::of(&requirement, cells, None);
@@ -387,7 +387,7 @@ fn an_explanation_is_made_of_a_cell(rt: HostRuntime) {
 
 /// Whether a line that checks none, for which the mode matters, is explained by a mode, with one finding.
 fn is_explained_by_mode(alloc: Global, line: &Line, provenance: ModeProvenance) -> bool {
-    let requirement = rule_of(Profile::Two, &line.view()).requirement;
+    let requirement = requirement_of_line(&line.view());
     match &requirement.checks {
         Checks::Nothing if requirement.mode_matters() => {
             let found = Explanation::of(&requirement, Vec::new(alloc), Some(provenance));
@@ -424,9 +424,7 @@ fn an_explanation_is_made_of_a_mode(rt: HostRuntime) {
 }
 
 fn touched_by(line: &Line, pid: u32, fd: u32) -> Touched {
-    rule_of(Profile::Two, &line.view())
-        .effect
-        .touch(line.pid(), pid, fd)
+    effect_of_line(Profile::Two, &line.view()).touch(line.pid(), pid, fd)
 }
 
 fn word_of(touched: &Touched) -> &'static str {
@@ -499,12 +497,7 @@ static TURNS: [(&[u8], u32, Turned); 5] = [
 /// Whether a line does that.
 fn turns(alloc: Global, row: &(&[u8], u32, Turned)) -> bool {
     match parse_line(alloc, row.0) {
-        Ok(line) => {
-            rule_of(Profile::Two, &line.view())
-                .effect
-                .turn(line.pid(), row.1)
-                == row.2
-        }
+        Ok(line) => { effect_of_line(Profile::Two, &line.view()).turn(line.pid(), row.1) == row.2 }
         Err(_) => false,
     }
 }

@@ -2,10 +2,11 @@
 
 use crate::machine::{Before, CELLS, OnTrace, try_all};
 use crate::sessions::{Query, ask_each};
-use cap_machine::{
-    Cell, Entering, Limit, Limits, LimitsBefore, MakerRow, NoMemory, OnExec, Profile, Start,
-    limits_among, limits_before, limits_of_makers, live_after, machine_after, standing_fds,
+use cap_limits::{
+    Entering, Limit, Limits, LimitsBefore, MakerRow, limits_among, limits_before, limits_of_makers,
+    live_after, machine_after, standing_fds,
 };
+use cap_machine::{Cell, NoMemory, OnExec, Profile, Start};
 use cap_rights::{RightSet, parse_rights};
 use cap_trace::{Fd, Line};
 use std::alloc::Global;

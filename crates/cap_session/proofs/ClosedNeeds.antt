@@ -26,7 +26,7 @@ use Rattle.cap_machine.specs.Needs.{access_needs, opening_needs, openat_needs, a
 use Rattle.cap_machine.specs.Needs.{rename_from_needs, rename_to_needs, link_from_needs, link_to_needs}
 use Rattle.cap_machine.specs.Places.{Place, below}
 use Rattle.cap_machine.specs.Judge.{listed}
-use Rattle.cap_machine.specs.Live.{checks_need}
+use Rattle.cap_limits.specs.Live.{checks_need}
 use Rattle.cap_machine.specs.Rule.{fd_requirement, fcntl_requirement, call_requirement, item_requirement, place_check}
 use Rattle.cap_machine.specs.Rule.{place_checks, both}
 use Rattle.cap_session.proofs.ClosedSets.{IsClosed, none_closed, join_closed, without_full_closed, found_closed}

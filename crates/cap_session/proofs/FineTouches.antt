@@ -45,7 +45,7 @@ use Rattle.cap_machine.specs.Op.{same, derive, copy_to_itself, limit, narrow, se
 use Rattle.cap_machine.specs.Flags.{all_known}
 use Rattle.cap_machine.specs.Named.{dir_names, arg_names}
 use Rattle.cap_machine.specs.Places.{below, is_empty, is_absolute, dir_fd}
-use Rattle.cap_machine.specs.Standing.{IsHeld}
+use Rattle.cap_limits.specs.Standing.{IsHeld}
 use Rattle.cap_machine.specs.Errno.{ebadf}
 use Rattle.cap_machine.specs.Touch.{Touch, kept, given, taken, started, succeeded, on_fd, on_success, on_made, on_both}
 use Rattle.cap_machine.specs.Touch.{closing, whole, copied, copied_to, unknown, exec_touch}

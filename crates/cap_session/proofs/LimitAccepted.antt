@@ -8,13 +8,13 @@ use Rattle.std.proofs.lemmas.List.Elements.{All-head, All-tail}
 use Rattle.cap_trace.specs.Entry.{Entry, IsPid}
 use Rattle.cap_trace.specs.Reading.{line_of}
 use Rattle.cap_trace.specs.Spelling.{canon}
-use Rattle.cap_machine.specs.Limits.{Row, row_of}
-use Rattle.cap_machine.specs.declared.limits.Limits.{Limits}
-use Rattle.cap_machine.specs.declared.limits.LimitsBefore.TheVariants as there
-use Rattle.cap_machine.specs.declared.limits.Entering.{Entering}
-use Rattle.cap_machine.specs.declared.limits.Entering.TheVariants.{Inside, Blocked, May}
-use Rattle.cap_machine.specs.declared.makers.MakerRow.{MakerRow}
-use Rattle.cap_machine.specs.declared.makers.MakerRow.TheVariants as made
+use Rattle.cap_limits.specs.Limits.{Row, row_of}
+use Rattle.cap_limits.specs.declared.limits.Limits.{Limits}
+use Rattle.cap_limits.specs.declared.limits.LimitsBefore.TheVariants as there
+use Rattle.cap_limits.specs.declared.limits.Entering.{Entering}
+use Rattle.cap_limits.specs.declared.limits.Entering.TheVariants.{Inside, Blocked, May}
+use Rattle.cap_limits.specs.declared.makers.MakerRow.{MakerRow}
+use Rattle.cap_limits.specs.declared.makers.MakerRow.TheVariants as made
 use Rattle.cap_session.specs.Replies.{refused_text}
 use Rattle.cap_session.specs.LimitScripts.{ScriptLine, comment, insertion, insertions, limit_line, makers_script}
 use Rattle.cap_session.specs.LimitScripts.{entering_line, unknown_lines, beginning_script}

@@ -19,14 +19,13 @@ use Rattle.cap_machine.specs.declared.cell.HeldOp.TheVariants.{Becomes, Keeps}
 use Rattle.cap_machine.specs.declared.cell.Op.{Op}
 use Rattle.cap_machine.specs.declared.cell.Profile.{Profile}
 use Rattle.cap_machine.specs.declared.step.Step.{Step}
-use Rattle.cap_machine.specs.History.{touched, after, ended}
-use Rattle.cap_machine.specs.LimitLaws.{HoldsSets}
+use Rattle.cap_machine.specs.History.{touched, after, ended, step_after}
+use Rattle.cap_limits.specs.LimitLaws.{HoldsSets}
 use Rattle.cap_machine.specs.Op.{applied, held, masked}
 use Rattle.cap_machine.specs.State.{State, Added, usual, listed_cell, with_listed, with_all, start_state}
 use Rattle.cap_machine.specs.Steps.{steps}
-use Rattle.cap_machine.specs.Code.Table.{step_after}
 use Rattle.cap_machine.specs.Touch.{Touch, kept, given, taken, touch}
-use Rattle.cap_machine.proofs.LimitSets.{holds_sets_after}
+use Rattle.cap_limits.proofs.LimitSets.{holds_sets_after}
 use Rattle.cap_session.specs.LimitTextLaws.{IsNamedCell, IsListedCell, IsSpelledStart}
 use Rattle.cap_session.proofs.ClosedSets.{IsClosed, named_closed, meet_closed}
 use Rattle.cap_session.proofs.FineLines.{FineLine, line_fine}

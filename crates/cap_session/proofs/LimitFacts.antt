@@ -11,21 +11,21 @@ use Rattle.cap_trace.specs.Entry.{Entry, IsFd, IsPid}
 use Rattle.cap_trace.specs.Spelling.{IsProper}
 use Rattle.cap_machine.specs.declared.cell.OnExec.TheVariants.{Unsure}
 use Rattle.cap_machine.specs.declared.cell.Profile.{Profile}
-use Rattle.cap_machine.specs.declared.limits.Entering.{Entering}
-use Rattle.cap_machine.specs.declared.limits.Entering.TheVariants.{Inside, Blocked, May}
-use Rattle.cap_machine.specs.declared.limits.Limits.{Limits}
-use Rattle.cap_machine.specs.declared.limits.LimitsBefore.TheVariants as there
+use Rattle.cap_limits.specs.declared.limits.Entering.{Entering}
+use Rattle.cap_limits.specs.declared.limits.Entering.TheVariants.{Inside, Blocked, May}
+use Rattle.cap_limits.specs.declared.limits.Limits.{Limits}
+use Rattle.cap_limits.specs.declared.limits.LimitsBefore.TheVariants as there
 use Rattle.cap_machine.specs.declared.step.Step.{Step}
 use Rattle.cap_machine.specs.History.{ended}
 use Rattle.cap_machine.specs.Judge.{is_forbidden}
-use Rattle.cap_machine.specs.Limits.{Row, IsLimit, row_of, IsEntering}
-use Rattle.cap_machine.specs.LimitsBefore.{AreLimitsBefore, IsUnknownLimit, rows_name}
-use Rattle.cap_machine.specs.Live.{Blocks, is_success}
+use Rattle.cap_limits.specs.Limits.{Row, IsLimit, row_of, IsEntering}
+use Rattle.cap_limits.specs.LimitsBefore.{AreLimitsBefore, IsUnknownLimit, rows_name}
+use Rattle.cap_limits.specs.Live.{Blocks, is_success}
 use Rattle.cap_machine.specs.Rule.{requirement}
-use Rattle.cap_machine.specs.Standing.{IsHeld}
+use Rattle.cap_limits.specs.Standing.{IsHeld}
 use Rattle.cap_machine.specs.State.{State, Added, start_state}
 use Rattle.cap_machine.specs.Steps.{steps}
-use Rattle.cap_machine.proofs.LimitBits.{same_named}
+use Rattle.cap_limits.proofs.LimitBits.{same_named}
 use Rattle.cap_session.specs.LimitScriptLaws.{IsNamed}
 use Rattle.cap_session.specs.LimitTextLaws.{IsTrace, IsSpelledStart}
 use Rattle.cap_session.proofs.FineTouches.{ClosedCell}

@@ -22,15 +22,16 @@ use Rattle.cap_machine.specs.declared.rule.Check.{Check}
 use Rattle.cap_machine.specs.declared.step.Step.{Step}
 use Rattle.cap_machine.specs.History.{touched, cell_after}
 use Rattle.cap_machine.specs.Judge.{listed}
-use Rattle.cap_machine.specs.Limits.{IsLeast}
-use Rattle.cap_machine.specs.Live.{Live, HandsOn, Passes, step_needs, checks_need, is_success}
+use Rattle.cap_limits.specs.Limits.{IsLeast}
+use Rattle.cap_limits.specs.Live.{Live, HandsOn, Passes, step_needs, checks_need, is_success}
 use Rattle.cap_machine.specs.Named.{args_name}
 use Rattle.cap_machine.specs.Op.{applied, held_op, masked}
 use Rattle.cap_machine.specs.Rule.{requirement}
-use Rattle.cap_machine.specs.Standing.{Stands, StandsBy, IsHeld, start_lists, last_cells}
+use Rattle.cap_limits.specs.Standing.{Stands, StandsBy, IsHeld, start_lists}
+use Rattle.cap_machine.specs.State.{last_cells}
 use Rattle.cap_machine.specs.State.{State, Added}
 use Rattle.cap_machine.specs.Touch.{Touch, kept, given, taken, touch}
-use Rattle.cap_machine.proofs.LimitLeast.{needing}
+use Rattle.cap_limits.proofs.LimitLeast.{needing}
 use Rattle.cap_machine.proofs.NamedFds.{named_checks}
 use Rattle.cap_session.specs.LimitScriptLaws.{IsNamed}
 use Rattle.cap_session.specs.LimitTextLaws.{IsListedCell, IsSpelledStart}

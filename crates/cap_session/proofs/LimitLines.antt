@@ -13,7 +13,7 @@ use Rattle.cap_trace.specs.Reading.{line_of}
 use Rattle.cap_trace.specs.Spelling.{canon, Spells}
 use Rattle.cap_trace.proofs.Numerals.{own, num_again}
 use Rattle.cap_trace.proofs.WholeLines.{line_again, digits_lack}
-use Rattle.cap_machine.specs.Limits.{Row}
+use Rattle.cap_limits.specs.Limits.{Row}
 use Rattle.cap_session.specs.Commands.{asked, asked_with, first_word, after_word, position, insert_line}
 use Rattle.cap_session.specs.LimitScripts.{limit_line, enter_line, bytes_of, insertion}
 use Rattle.cap_session.specs.LimitScriptLaws.{IsNamed}

@@ -4,14 +4,14 @@ use Rattle.std.specs.List.{All, slice_get}
 use Rattle.cap_rights.specs.Rights.{IsRightSet}
 use Rattle.cap_trace.specs.Entry.{Entry, IsPid, IsFd}
 use Rattle.cap_machine.specs.Judge.{is_forbidden}
-use Rattle.cap_machine.specs.Limits.{Row, row_of}
+use Rattle.cap_limits.specs.Limits.{Row, row_of}
 use Rattle.cap_machine.specs.Rule.{requirement}
-use Rattle.cap_machine.specs.declared.limits.Entering.{Entering}
-use Rattle.cap_machine.specs.declared.limits.Entering.TheVariants.{Inside, Blocked, May}
-use Rattle.cap_machine.specs.declared.limits.Limits.{Limits}
-use Rattle.cap_machine.specs.declared.makers.MakerLimit.{MakerLimit}
-use Rattle.cap_machine.specs.declared.makers.MakerRow.{MakerRow}
-use Rattle.cap_machine.specs.declared.makers.MakerRow.TheVariants as made
+use Rattle.cap_limits.specs.declared.limits.Entering.{Entering}
+use Rattle.cap_limits.specs.declared.limits.Entering.TheVariants.{Inside, Blocked, May}
+use Rattle.cap_limits.specs.declared.limits.Limits.{Limits}
+use Rattle.cap_limits.specs.declared.makers.MakerLimit.{MakerLimit}
+use Rattle.cap_limits.specs.declared.makers.MakerRow.{MakerRow}
+use Rattle.cap_limits.specs.declared.makers.MakerRow.TheVariants as made
 use Rattle.cap_session.specs.LimitScriptLaws.{IsNamed}
 
 -- a descriptor and a set of rights

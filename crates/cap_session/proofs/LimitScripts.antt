@@ -21,14 +21,14 @@ use Rattle.cap_trace.specs.declared.calls.Form.{Form}
 use Rattle.cap_trace.specs.Reading.{line_of}
 use Rattle.cap_trace.specs.Spelling.{canon}
 use Rattle.cap_trace.proofs.Heads.{find_takes, form_again}
-use Rattle.cap_machine.specs.Limits.{Row, row_of as line_row}
-use Rattle.cap_machine.specs.declared.limits.Limits.{Limits}
+use Rattle.cap_limits.specs.Limits.{Row, row_of as line_row}
+use Rattle.cap_limits.specs.declared.limits.Limits.{Limits}
 use Rattle.cap_machine.specs.Judge.{is_forbidden}
 use Rattle.cap_machine.specs.Rule.{requirement, call_requirement, item_requirement}
 use Rattle.cap_machine.specs.declared.cell.Profile.{Profile}
-use Rattle.cap_machine.specs.declared.makers.MakerLimit.{MakerLimit}
-use Rattle.cap_machine.specs.declared.makers.MakerRow.{MakerRow}
-use Rattle.cap_machine.specs.declared.makers.MakerRow.TheVariants as made
+use Rattle.cap_limits.specs.declared.makers.MakerLimit.{MakerLimit}
+use Rattle.cap_limits.specs.declared.makers.MakerRow.{MakerRow}
+use Rattle.cap_limits.specs.declared.makers.MakerRow.TheVariants as made
 use Rattle.cap_session.specs.declared.edit.Edit.TheVariants.{Insert}
 use Rattle.cap_session.specs.declared.refused.Refused.{Refused}
 use Rattle.cap_session.specs.declared.refused.Refused.TheVariants.{Full}
@@ -41,8 +41,8 @@ use Rattle.cap_session.specs.Replies.{ScriptState, begun}
 use Rattle.cap_session.specs.Scripts.{Answers, Commands, Run}
 use Rattle.cap_session.specs.Trace.{is_skipped}
 use Rattle.cap_session.specs.LimitScripts.{ScriptLine, comment, insertion, bytes_of, words_of, script_text, insertions}
-use Rattle.cap_machine.specs.declared.limits.Entering.{Entering}
-use Rattle.cap_machine.specs.declared.limits.Entering.TheVariants.{Inside, Blocked, May}
+use Rattle.cap_limits.specs.declared.limits.Entering.{Entering}
+use Rattle.cap_limits.specs.declared.limits.Entering.TheVariants.{Inside, Blocked, May}
 use Rattle.cap_session.specs.LimitScripts.{limit_line, enter_line, made_words, makers_script, process_script}
 use Rattle.cap_session.specs.LimitScripts.{place_words, begins_words, beginning_script, unknown_words, inside_words}
 use Rattle.cap_session.specs.LimitScripts.{blocked_words, call_text, entering_line, unknown_lines}

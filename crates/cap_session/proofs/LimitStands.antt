@@ -5,12 +5,12 @@ use Rattle.std.specs.Prelude.{insert}
 use Rattle.std.proofs.lemmas.List.{map-append, length-map}
 use Rattle.std.proofs.Math.Seq.{take-append_seam, drop-append_seam}
 use Rattle.cap_trace.specs.Entry.{Entry}
-use Rattle.cap_machine.specs.LimitLaws.{script, limit_step}
-use Rattle.cap_machine.specs.Limits.{Row}
+use Rattle.cap_limits.specs.LimitLaws.{script, limit_step}
+use Rattle.cap_limits.specs.Limits.{Row}
 use Rattle.cap_machine.specs.Steps.{step, steps}
 use Rattle.cap_machine.specs.declared.cell.Profile.{Profile}
-use Rattle.cap_machine.specs.declared.limits.Entering.{Entering}
-use Rattle.cap_machine.specs.declared.limits.Entering.TheVariants.{Inside, Blocked, May}
+use Rattle.cap_limits.specs.declared.limits.Entering.{Entering}
+use Rattle.cap_limits.specs.declared.limits.Entering.TheVariants.{Inside, Blocked, May}
 use Rattle.cap_session.specs.LimitScripts.{ScriptLine, insertions, limit_line, enter_line}
 use Rattle.cap_session.specs.LimitScripts.{process_script, entering_line, unknown_lines}
 use Rattle.cap_session.specs.LimitScriptLaws.{with_script}

@@ -7,11 +7,11 @@ use Rattle.std.proofs.lemmas.List.{append-nil, take_more, map-append, length-map
 use Rattle.std.proofs.lemmas.List.Concat.{flat_map-append}
 use Rattle.cap_rights.specs.Text.{text}
 use Rattle.cap_machine.specs.Report.{line_of_words}
-use Rattle.cap_machine.specs.declared.makers.MakerLimit.{MakerLimit}
-use Rattle.cap_machine.specs.declared.makers.MakerRow.{MakerRow}
+use Rattle.cap_limits.specs.declared.makers.MakerLimit.{MakerLimit}
+use Rattle.cap_limits.specs.declared.makers.MakerRow.{MakerRow}
 use Rattle.cap_trace.specs.Entry.{Entry}
-use Rattle.cap_machine.specs.Limits.{Row, row_of}
-use Rattle.cap_machine.specs.declared.limit.Limit.{Limit}
+use Rattle.cap_limits.specs.Limits.{Row, row_of}
+use Rattle.cap_limits.specs.declared.limit.Limit.{Limit}
 use Rattle.cap_session.specs.LimitScripts.{ScriptLine, insertion, comment, insertions, limit_line, maker_line, maker_lines}
 use Rattle.cap_session.specs.LimitScripts.{enter_line, words_of, script_text, begins_words, place_words, unknown_lines, unknown_words}
 use Rattle.cap_session.specs.LimitScripts.{made_words}

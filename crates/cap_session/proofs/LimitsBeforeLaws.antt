@@ -7,23 +7,23 @@ use Rattle.std.proofs.lemmas.List.{length-map, map-append}
 use Rattle.cap_rights.specs.Rights.{holds}
 use Rattle.cap_trace.specs.Entry.{Entry}
 use Rattle.cap_machine.specs.declared.cell.Profile.{Profile}
-use Rattle.cap_machine.specs.declared.limits.Limits.{Limits}
-use Rattle.cap_machine.specs.declared.limits.LimitsBefore.TheVariants as there
-use Rattle.cap_machine.specs.declared.limits.Entering.{Entering}
-use Rattle.cap_machine.specs.declared.limits.Entering.TheVariants.{Inside, Blocked, May}
+use Rattle.cap_limits.specs.declared.limits.Limits.{Limits}
+use Rattle.cap_limits.specs.declared.limits.LimitsBefore.TheVariants as there
+use Rattle.cap_limits.specs.declared.limits.Entering.{Entering}
+use Rattle.cap_limits.specs.declared.limits.Entering.TheVariants.{Inside, Blocked, May}
 use Rattle.cap_machine.specs.declared.step.Step.{Step}
 use Rattle.cap_machine.specs.declared.verdict.Found.{Found}
 use Rattle.cap_machine.specs.declared.verdict.Finding.TheVariants.{Forbidden}
 use Rattle.cap_machine.specs.Check.{check, found_at}
 use Rattle.cap_machine.specs.History.{ended}
-use Rattle.cap_machine.specs.LimitLaws.{script, limit_step, enter_step, MayEnter, HoldsSets, NewlyLacks}
-use Rattle.cap_machine.specs.Limits.{Row, IsLimit, row_of, IsEntering}
-use Rattle.cap_machine.specs.LimitsBefore.{AreLimitsBefore}
+use Rattle.cap_limits.specs.LimitLaws.{script, limit_step, enter_step, MayEnter, HoldsSets, NewlyLacks}
+use Rattle.cap_limits.specs.Limits.{Row, IsLimit, row_of, IsEntering}
+use Rattle.cap_limits.specs.LimitsBefore.{AreLimitsBefore}
 use Rattle.cap_machine.specs.State.{State, Added, start_state}
 use Rattle.cap_machine.specs.Steps.{step, steps}
-use Rattle.cap_machine.proofs.LimitEnough.{limits_are_enough}
-use Rattle.cap_machine.proofs.LimitFindings.{In, in_among, among_in}
-use Rattle.cap_machine.proofs.LimitScripts.{scripts_are_least, entering_is_forbidden}
+use Rattle.cap_limits.proofs.LimitEnough.{limits_are_enough}
+use Rattle.cap_limits.proofs.LimitFindings.{In, in_among, among_in}
+use Rattle.cap_limits.proofs.LimitScripts.{scripts_are_least, entering_is_forbidden}
 use Rattle.cap_session.specs.LimitScripts.{insertion, enter_line, process_script}
 use Rattle.cap_session.specs.LimitScriptLaws.{with_script}
 use Rattle.cap_session.specs.LimitStreams.{limits_script}

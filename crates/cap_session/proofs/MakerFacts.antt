@@ -12,14 +12,14 @@ use Rattle.cap_trace.specs.declared.line.Answer.{Answer}
 use Rattle.cap_trace.specs.declared.line.Answer.TheVariants as answers
 use Rattle.cap_trace.specs.Entry.{Entry, IsFd, IsPid, IsAnswer, IsWhole, kind_of}
 use Rattle.cap_machine.specs.declared.cell.Profile.{Profile}
-use Rattle.cap_machine.specs.declared.makers.MakerLimit.{MakerLimit}
-use Rattle.cap_machine.specs.declared.makers.MakerRow.{MakerRow}
-use Rattle.cap_machine.specs.declared.makers.MakerRow.TheVariants as made
+use Rattle.cap_limits.specs.declared.makers.MakerLimit.{MakerLimit}
+use Rattle.cap_limits.specs.declared.makers.MakerRow.{MakerRow}
+use Rattle.cap_limits.specs.declared.makers.MakerRow.TheVariants as made
 use Rattle.cap_machine.specs.declared.step.Step.{Step}
 use Rattle.cap_machine.specs.History.{ended}
-use Rattle.cap_machine.specs.Makers.{AreRowsOf, AreMakerRows, Place, place_of, row_place, made_fds, made_of}
-use Rattle.cap_machine.specs.Makers.{IsMakerRow}
-use Rattle.cap_machine.specs.Makers.{one_fd, two_fds, fd_with_child}
+use Rattle.cap_limits.specs.Makers.{AreRowsOf, AreMakerRows, Place, place_of, row_place, made_fds, made_of}
+use Rattle.cap_limits.specs.Makers.{IsMakerRow}
+use Rattle.cap_limits.specs.Makers.{one_fd, two_fds, fd_with_child}
 use Rattle.cap_machine.specs.State.{State, Added, start_state}
 use Rattle.cap_machine.specs.Steps.{step, steps}
 use Rattle.cap_session.specs.LimitTextLaws.{IsTrace, IsSpelledStart}

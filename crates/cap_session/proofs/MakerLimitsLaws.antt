@@ -7,17 +7,17 @@ use Rattle.std.proofs.lemmas.List.{map-append, append-nil}
 use Rattle.cap_rights.specs.Rights.{holds}
 use Rattle.cap_trace.specs.Entry.{Entry}
 use Rattle.cap_machine.specs.declared.cell.Profile.{Profile}
-use Rattle.cap_machine.specs.declared.makers.MakerLimit.{MakerLimit}
-use Rattle.cap_machine.specs.declared.makers.MakerRow.{MakerRow}
-use Rattle.cap_machine.specs.declared.makers.MakerRow.TheVariants as made
+use Rattle.cap_limits.specs.declared.makers.MakerLimit.{MakerLimit}
+use Rattle.cap_limits.specs.declared.makers.MakerRow.{MakerRow}
+use Rattle.cap_limits.specs.declared.makers.MakerRow.TheVariants as made
 use Rattle.cap_machine.specs.declared.verdict.Found.{Found}
 use Rattle.cap_machine.specs.Check.{check}
-use Rattle.cap_machine.specs.LimitLaws.{Limited, HoldsSets, AreLimits, NewlyLacks, with_limits}
-use Rattle.cap_machine.specs.Limits.{Row}
-use Rattle.cap_machine.specs.Makers.{Place, place_of, row_place}
+use Rattle.cap_limits.specs.LimitLaws.{Limited, HoldsSets, AreLimits, NewlyLacks, with_limits}
+use Rattle.cap_limits.specs.Limits.{Row}
+use Rattle.cap_limits.specs.Makers.{Place, place_of, row_place}
 use Rattle.cap_machine.specs.State.{Added, start_state}
 use Rattle.cap_machine.specs.Steps.{step}
-use Rattle.cap_machine.proofs.LimitPlaces.{all_limits_are_enough, all_limits_are_least}
+use Rattle.cap_limits.proofs.LimitPlaces.{all_limits_are_enough, all_limits_are_least}
 use Rattle.cap_session.specs.LimitScripts.{makers_script}
 use Rattle.cap_session.specs.LimitScriptLaws.{with_script}
 use Rattle.cap_session.specs.LimitTextLaws.{checked, moved_down, MakerLimitsAreEnough, MakerLimitsAreLeast}

@@ -2,10 +2,10 @@
 use Rattle.std.proofs.Common.{◌≡◌, ℕ, zero, suc, ◌+◌, ◌<◌, ◌≤◌, List, [], ◌∷◌, ◌++◌, length, map, refl, sym, ap, subst}
 use Rattle.std.proofs.Common.{arith, inl, inr}
 use Rattle.std.specs.List.{All}
-use Rattle.cap_machine.specs.declared.makers.MakerRow.{MakerRow}
+use Rattle.cap_limits.specs.declared.makers.MakerRow.{MakerRow}
 use Rattle.cap_machine.specs.declared.step.Step.{Step}
 use Rattle.cap_machine.specs.History.{ended}
-use Rattle.cap_machine.specs.Makers.{Place, row_place, made_fds, AreRowsOf, AreMakerRows}
+use Rattle.cap_limits.specs.Makers.{Place, row_place, made_fds, AreRowsOf, AreMakerRows}
 use Rattle.cap_machine.specs.State.{State}
 use Rattle.cap_session.specs.LimitScripts.{script_text, makers_script, maker_lines, maker_line, bytes_of}
 

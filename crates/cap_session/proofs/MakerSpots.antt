@@ -7,14 +7,14 @@ use Rattle.std.proofs.lemmas.List.{map-append, append-nil}
 use Rattle.std.proofs.lemmas.List.Elements.{All-append, All-cons, All-nil}
 use Rattle.cap_trace.specs.Entry.{Entry}
 use Rattle.cap_machine.specs.declared.cell.Profile.{Profile}
-use Rattle.cap_machine.specs.declared.makers.MakerLimit.{MakerLimit}
-use Rattle.cap_machine.specs.declared.makers.MakerRow.{MakerRow}
-use Rattle.cap_machine.specs.declared.makers.MakerRow.TheVariants as made
+use Rattle.cap_limits.specs.declared.makers.MakerLimit.{MakerLimit}
+use Rattle.cap_limits.specs.declared.makers.MakerRow.{MakerRow}
+use Rattle.cap_limits.specs.declared.makers.MakerRow.TheVariants as made
 use Rattle.cap_machine.specs.declared.step.Step.{Step}
 use Rattle.cap_machine.specs.History.{ended}
-use Rattle.cap_machine.specs.LimitLaws.{Limited, AreLimits, limit_step, with_limits, without_limits}
-use Rattle.cap_machine.specs.Limits.{Row, IsLimit}
-use Rattle.cap_machine.specs.Makers.{Place, row_place, made_fds, AreRowsOf, AreMakerRows}
+use Rattle.cap_limits.specs.LimitLaws.{Limited, AreLimits, limit_step, with_limits, without_limits}
+use Rattle.cap_limits.specs.Limits.{Row, IsLimit}
+use Rattle.cap_limits.specs.Makers.{Place, row_place, made_fds, AreRowsOf, AreMakerRows}
 use Rattle.cap_machine.specs.State.{State}
 use Rattle.cap_machine.specs.Steps.{step, steps}
 use Rattle.cap_session.specs.LimitScripts.{ScriptLine, limit_line, maker_line, makers_script}

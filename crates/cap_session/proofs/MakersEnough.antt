@@ -6,21 +6,20 @@ use Rattle.std.specs.List.{All, IsAmong}
 use Rattle.std.proofs.lemmas.Bool.{lt-ltb, le-ltb}
 use Rattle.std.proofs.lemmas.List.{length-append, length-map}
 use Rattle.cap_machine.specs.declared.cell.Profile.{Profile}
-use Rattle.cap_machine.specs.declared.makers.MakerRow.{MakerRow}
-use Rattle.cap_machine.specs.declared.makers.MakerRow.TheVariants as made
+use Rattle.cap_limits.specs.declared.makers.MakerRow.{MakerRow}
+use Rattle.cap_limits.specs.declared.makers.MakerRow.TheVariants as made
 use Rattle.cap_machine.specs.declared.step.Step.{Step}
 use Rattle.cap_machine.specs.declared.verdict.Finding.{Finding}
 use Rattle.cap_machine.specs.declared.verdict.Found.{Found}
 use Rattle.cap_machine.specs.Check.{check, said, found_at}
-use Rattle.cap_machine.specs.History.{ended}
+use Rattle.cap_machine.specs.History.{ended, step_after}
 use Rattle.cap_machine.specs.Laws.{later}
-use Rattle.cap_machine.specs.LimitLaws.{NoneNew, limit_step, limits_after, with_limits}
-use Rattle.cap_machine.specs.Makers.{row_place}
+use Rattle.cap_limits.specs.LimitLaws.{NoneNew, limit_step, limits_after, with_limits}
+use Rattle.cap_limits.specs.Makers.{row_place}
 use Rattle.cap_machine.specs.State.{State}
 use Rattle.cap_machine.specs.Steps.{step, steps}
-use Rattle.cap_machine.specs.Code.Table.{step_after}
-use Rattle.cap_machine.proofs.LimitEnough.{ended_first}
-use Rattle.cap_machine.proofs.LimitFindings.{In, in_map, within_all, found_after, found_now, found_later, found_when}
+use Rattle.cap_limits.proofs.LimitEnough.{ended_first}
+use Rattle.cap_limits.proofs.LimitFindings.{In, in_map, within_all, found_after, found_now, found_later, found_when}
 use Rattle.cap_session.specs.LimitTextLaws.{lines_above, moved_down}
 use Rattle.cap_session.proofs.MakerPlaces.{AreAt}
 use Rattle.cap_session.proofs.MakerSpots.{Spot, lines_of, made_in, AreAligned, maker_row, rows_of}

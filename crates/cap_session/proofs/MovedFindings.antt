@@ -10,9 +10,9 @@ use Rattle.cap_machine.specs.State.{State}
 use Rattle.cap_machine.specs.History.{ended}
 use Rattle.cap_machine.specs.Check.{check, found_at}
 use Rattle.cap_machine.specs.Laws.{later}
-use Rattle.cap_machine.specs.LimitLaws.{Lacks, NewlyLacks}
-use Rattle.cap_machine.proofs.LimitFindings.{In, in_among, among_in, in_left, in_right, in_either, in_map, from_map}
-use Rattle.cap_machine.proofs.LimitFindings.{Within, within_all, found_after}
+use Rattle.cap_limits.specs.LimitLaws.{Lacks, NewlyLacks}
+use Rattle.cap_limits.proofs.LimitFindings.{In, in_among, among_in, in_left, in_right, in_either, in_map, from_map}
+use Rattle.cap_limits.proofs.LimitFindings.{Within, within_all, found_after}
 use Rattle.cap_machine.proofs.Positions.{positions_within}
 use Rattle.cap_machine.proofs.Turns.{checks_in_turn}
 use Rattle.cap_session.specs.LimitTextLaws.{moved}

@@ -25,13 +25,13 @@ use Rattle.cap_trace.specs.declared.calls.BareCall.TheVariants.{CapEnter}
 use Rattle.cap_trace.specs.Entry.{Entry, head_of}
 use Rattle.cap_trace.specs.Names.{name_of}
 use Rattle.cap_trace.specs.Spelling.{canon}
-use Rattle.cap_machine.specs.Limits.{Row}
+use Rattle.cap_limits.specs.Limits.{Row}
 use Rattle.cap_machine.specs.Report.{line_of_words}
-use Rattle.cap_machine.specs.declared.limits.Entering.{Entering}
-use Rattle.cap_machine.specs.declared.limits.Entering.TheVariants.{Inside, Blocked, May}
-use Rattle.cap_machine.specs.declared.makers.MakerLimit.{MakerLimit}
-use Rattle.cap_machine.specs.declared.makers.MakerRow.{MakerRow}
-use Rattle.cap_machine.specs.declared.makers.MakerRow.TheVariants as made
+use Rattle.cap_limits.specs.declared.limits.Entering.{Entering}
+use Rattle.cap_limits.specs.declared.limits.Entering.TheVariants.{Inside, Blocked, May}
+use Rattle.cap_limits.specs.declared.makers.MakerLimit.{MakerLimit}
+use Rattle.cap_limits.specs.declared.makers.MakerRow.{MakerRow}
+use Rattle.cap_limits.specs.declared.makers.MakerRow.TheVariants as made
 
 -- ---- lines of a script
 

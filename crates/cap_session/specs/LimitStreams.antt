@@ -2,13 +2,13 @@
 use Rattle.std.specs.Prelude.{◌≡◌, ◌⊎◌, ◌<◌, ℕ, List, [], length, map, Option, Some, None}
 use Rattle.cap_trace.specs.Entry.{Entry}
 use Rattle.cap_machine.specs.declared.cell.Profile.{Profile}
-use Rattle.cap_machine.specs.declared.limits.Limits.{Limits}
-use Rattle.cap_machine.specs.declared.limits.LimitsBefore.{LimitsBefore}
-use Rattle.cap_machine.specs.declared.limits.LimitsBefore.TheVariants as there
-use Rattle.cap_machine.specs.declared.makers.MakerRow.{MakerRow}
-use Rattle.cap_machine.specs.Limits.{row_of}
-use Rattle.cap_machine.specs.LimitsBefore.{AreLimitsBefore}
-use Rattle.cap_machine.specs.Makers.{AreMakerRows}
+use Rattle.cap_limits.specs.declared.limits.Limits.{Limits}
+use Rattle.cap_limits.specs.declared.limits.LimitsBefore.{LimitsBefore}
+use Rattle.cap_limits.specs.declared.limits.LimitsBefore.TheVariants as there
+use Rattle.cap_limits.specs.declared.makers.MakerRow.{MakerRow}
+use Rattle.cap_limits.specs.Limits.{row_of}
+use Rattle.cap_limits.specs.LimitsBefore.{AreLimitsBefore}
+use Rattle.cap_limits.specs.Makers.{AreMakerRows}
 use Rattle.cap_machine.specs.State.{Added, start_state}
 use Rattle.cap_machine.specs.Steps.{steps}
 use Rattle.cap_session.specs.AnswerStreams.{Says}

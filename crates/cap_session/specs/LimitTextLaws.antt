@@ -9,20 +9,20 @@ use Rattle.cap_trace.specs.Spelling.{IsProper}
 use Rattle.cap_machine.specs.declared.cell.Cell.{Cell}
 use Rattle.cap_machine.specs.declared.cell.Cell.TheVariants.{Unknown, Closed, Held}
 use Rattle.cap_machine.specs.declared.cell.Profile.{Profile}
-use Rattle.cap_machine.specs.declared.limits.Limits.{Limits}
-use Rattle.cap_machine.specs.declared.limits.LimitsBefore.{LimitsBefore}
-use Rattle.cap_machine.specs.declared.limits.LimitsBefore.TheVariants as there
-use Rattle.cap_machine.specs.declared.limits.Entering.TheVariants.{Blocked}
-use Rattle.cap_machine.specs.declared.makers.MakerLimit.{MakerLimit}
-use Rattle.cap_machine.specs.declared.makers.MakerRow.{MakerRow}
-use Rattle.cap_machine.specs.declared.makers.MakerRow.TheVariants as made
+use Rattle.cap_limits.specs.declared.limits.Limits.{Limits}
+use Rattle.cap_limits.specs.declared.limits.LimitsBefore.{LimitsBefore}
+use Rattle.cap_limits.specs.declared.limits.LimitsBefore.TheVariants as there
+use Rattle.cap_limits.specs.declared.limits.Entering.TheVariants.{Blocked}
+use Rattle.cap_limits.specs.declared.makers.MakerLimit.{MakerLimit}
+use Rattle.cap_limits.specs.declared.makers.MakerRow.{MakerRow}
+use Rattle.cap_limits.specs.declared.makers.MakerRow.TheVariants as made
 use Rattle.cap_machine.specs.declared.verdict.Finding.TheVariants.{Forbidden}
 use Rattle.cap_machine.specs.declared.verdict.Found.{Found}
 use Rattle.cap_machine.specs.Check.{check, found_at}
-use Rattle.cap_machine.specs.LimitLaws.{NewlyLacks}
-use Rattle.cap_machine.specs.Limits.{Row, row_of}
-use Rattle.cap_machine.specs.LimitsBefore.{AreLimitsBefore}
-use Rattle.cap_machine.specs.Makers.{AreMakerRows, place_of}
+use Rattle.cap_limits.specs.LimitLaws.{NewlyLacks}
+use Rattle.cap_limits.specs.Limits.{Row, row_of}
+use Rattle.cap_limits.specs.LimitsBefore.{AreLimitsBefore}
+use Rattle.cap_limits.specs.Makers.{AreMakerRows, place_of}
 use Rattle.cap_machine.specs.State.{Added, start_state}
 use Rattle.cap_machine.specs.Steps.{steps}
 use Rattle.cap_session.specs.Limits.{most_lines}

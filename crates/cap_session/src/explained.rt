@@ -18,7 +18,7 @@ use crate::trace::{Trace, is_position};
 use crate::wording::{put_denied, put_found};
 use cap_machine::{
     CellProvenance, Checks, Explanation, LineDenials, ModeProvenance, NoMemory, Profile, Start,
-    Verdict, explain, rule_of,
+    Verdict, explain, requirement_of_line,
 };
 use cap_trace::Line;
 use std::alloc::Global;
@@ -97,7 +97,7 @@ fn put_mode<T: Trace>(
 fn checks_of(line: &Line) -> Checks
     ensures { listed result ≡ listed (requirement line.now).checks }
 {
-    rule_of(Profile::One, &line.view()).requirement.checks
+    requirement_of_line(&line.view()).checks
 }
 
 /// The text of what the line at a position rests on.

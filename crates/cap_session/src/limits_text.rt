@@ -3,10 +3,10 @@ ghost use Rattle.std.specs.Prelude.{◌≡◌, ◌⊎◌, ◌↔◌, ◌++◌, �
 ghost use Rattle.std.specs.Prelude.{codes, decimal, option_copied};
 ghost use Rattle.std.specs.List.{All};
 ghost use Rattle.cap_trace.specs.Entry.{Entry};
-ghost use Rattle.cap_machine.specs.Limits.{row_of};
+ghost use Rattle.cap_limits.specs.Limits.{row_of};
 ghost use Rattle.cap_machine.specs.Report.{line_of_words};
-ghost use Rattle.cap_machine.specs.declared.makers.MakerRow.{MakerRow};
-ghost use Rattle.cap_machine.specs.Makers.{row_place};
+ghost use Rattle.cap_limits.specs.declared.makers.MakerRow.{MakerRow};
+ghost use Rattle.cap_limits.specs.Makers.{row_place};
 ghost use Rattle.cap_session.specs.LimitScripts.{limit_line, enter_line, made_words, maker_line, maker_lines, words_of, comment};
 ghost use Rattle.cap_session.specs.LimitScripts.{insertion, insertions, script_text, place_words, unknown_words};
 ghost use Rattle.cap_session.specs.LimitScripts.{unknown_lines, inside_words, blocked_words, call_text, entering_line};
@@ -16,10 +16,10 @@ ghost use Rattle.cap_session.specs.LimitStreams.{limits_script, IsMakersText, Is
 use crate::refused::Refused;
 use crate::trace::is_position;
 use crate::wording::put_between;
-use cap_machine::{
-    Entering, Limit, Limits, LimitsBefore, MakerLimit, MakerRow, NoMemory, Profile, Start,
-    limits_before, limits_of_makers,
+use cap_limits::{
+    Entering, Limit, Limits, LimitsBefore, MakerLimit, MakerRow, limits_before, limits_of_makers,
 };
+use cap_machine::{NoMemory, Profile, Start};
 use cap_rights::{RightSet, write_rights};
 use cap_trace::{Fd, Line, Pid, put_number};
 use std::alloc::Global;

@@ -2,7 +2,7 @@
 use Rattle.std.specs.Prelude.{List, false, get_or, if◌then◌else◌, length, map, take, true, ℕ, ◌++◌, ◌+◌, ◌<◌, ◌||◌, ◌∷◌}
 use Rattle.std.specs.Prelude.{[], refl, ◌≡◌, ◌≤◌}
 use Rattle.cap_machine.proofs.{Turns.ends_more}
-use Rattle.cap_machine.specs.{Code.Table.step_after, History.turned}
+use Rattle.cap_machine.specs.{History.step_after, History.turned}
 use Rattle.cap_summary.proofs.{LineAsking.has_any-append, Naming.effect_among, Naming.first_among, Naming.second_among}
 use Rattle.cap_summary.proofs.{All-append, Naming.asks_among, checks_in_turn, checks_more, ends_in_turn, length-append}
 use Rattle.cap_summary.proofs.{All-cons, All-nil, ap, arith, fun_ext, map-append, sym, take_more, ◌∙◌}

@@ -10,7 +10,7 @@ pub use Rattle.std.specs.{Int.bit_at, List.list_all, List.list_any, Option.optio
 pub use Rattle.cap_rights.specs.Rights.{all, has_all, join, none}
 pub use Rattle.cap_trace.specs.declared.calls.ResultKind.{ResultKind}
 pub use Rattle.cap_trace.specs.{Entry.Entry, Entry.kind_of, Item.Item, Views.fds_spelled, declared.line.Answer.Answer}
-pub use Rattle.cap_machine.specs.Code.{Walks.LeavesCell, Walks.LeavesMode, Wanted.is_child}
+pub use Rattle.cap_machine.specs.{Code.Walks.LeavesCell, Code.Walks.LeavesMode, Effect.is_child}
 pub use Rattle.cap_machine.specs.{Check.check, Check.found_at, Check.said, Explain.Explained, Explain.explained}
 pub use Rattle.cap_machine.specs.Judge.{all_excused, fault, faults, has_check, is_outside, listed}
 pub use Rattle.cap_machine.specs.Touch.{Touch, Turn, follows, given, kept, started, stays, taken, touch, turn, turns}

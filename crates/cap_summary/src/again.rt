@@ -10,7 +10,7 @@ ghost use Rattle.cap_summary.specs.{Differing.DifferAt, Keys.cells_of, said};
 use crate::difference::{Alone, Differences};
 use crate::node::{Content, Node};
 use crate::{Before, Effect, KeptRun, LineAsks, Summary};
-use cap_machine::{Found, Start, Step, Verdict, rule_of};
+use cap_machine::{Found, Start, Step, Verdict, requirement_of_line};
 use cap_tree::NoMemory;
 use std::alloc::Global;
 use std::rc::Rc;
@@ -154,7 +154,7 @@ fn said_of(before: &Before<'_>, step: &Step) -> Verdict
 {
     let line = step.line.view();
     let pid = line.pid;
-    let requirement = rule_of(step.profile, &line).requirement;
+    let requirement = requirement_of_line(&line);
     before.said(pid, &requirement)
 }
 

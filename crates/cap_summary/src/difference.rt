@@ -12,7 +12,9 @@ use crate::view::Seen;
 use crate::{
     Ask, Before, Effect, Key, LineAsks, Precondition, Row, UpToThree, Value, cell_of_mode,
 };
-use cap_machine::{Cell, Effect as LineEffect, Mode, Op, Step, rule_of};
+use cap_machine::{
+    Cell, Effect as LineEffect, Mode, Op, Step, effect_of_line, requirement_of_line,
+};
 use cap_trace::Pid;
 use cap_tree::NoMemory;
 use std::alloc::Global;
@@ -433,8 +435,8 @@ impl Differences {
     {
         let line = step.line.view();
         let pid = line.pid;
-        let rule = rule_of(step.profile, &line);
-        let tried = self.take_alone(alloc, before, alone, pid, &rule.effect)?;
+        let done = effect_of_line(step.profile, &line);
+        let tried = self.take_alone(alloc, before, alone, pid, &done)?;
         Ok(tried)
     }
 
@@ -445,9 +447,9 @@ impl Differences {
     {
         let line = step.line.view();
         let pid = line.pid;
-        let rule = rule_of(step.profile, &line);
+        let done = effect_of_line(step.profile, &line);
         let mut effect = Effect::empty(alloc);
-        effect.push(alloc, pid, &rule.effect)?;
+        effect.push(alloc, pid, &done)?;
         let put = self.through(alloc, &effect)?;
         Ok(put)
     }
@@ -459,7 +461,7 @@ impl Differences {
     {
         let line = step.line.view();
         let pid = line.pid;
-        let requirement = rule_of(step.profile, &line).requirement;
+        let requirement = requirement_of_line(&line);
         let asks = LineAsks::of_line(pid, &requirement);
         self.agree_on_line(&asks)
     }

@@ -13,7 +13,7 @@ use crate::node::Node;
 use crate::{Report, Summary};
 use cap_machine::{
     CellProvenance, CellWalk, Checks, Explanation, Found, ModeProvenance, ModeWalk, Requirement,
-    Start, Step, rule_of,
+    Start, Step, requirement_of_line,
 };
 use cap_trace::{Fd, Pid};
 use cap_tree::NoMemory;
@@ -101,7 +101,7 @@ impl PlaceInNode<'_> {
     {
         let line = step.line.view();
         let pid = line.pid;
-        let requirement = rule_of(step.profile, &line).requirement;
+        let requirement = requirement_of_line(&line);
         let cells = self.provenances(alloc, pid, &requirement.checks)?;
         let mode = self.mode_where(alloc, pid, &requirement)?;
         Ok(Explanation::of(&requirement, cells, mode))

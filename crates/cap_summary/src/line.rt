@@ -11,7 +11,7 @@ ghost use Rattle.cap_summary.specs.{Effects.{own_row, row_cell, row_leaves, sets
 use crate::{
     Base, DefaultCells, Effect, Key, Map, Passing, Row, SharedOp, SharedRow, Value, cell_of_mode,
 };
-use cap_machine::{Effect as LineEffect, Mode, OnExec, Step, rule_of};
+use cap_machine::{Effect as LineEffect, Mode, OnExec, Step, effect_of_line};
 use cap_rights::RightSet;
 use cap_trace::{Fd, Pid, fds_of};
 use cap_tree::NoMemory;
@@ -215,8 +215,8 @@ impl Effect {
     {
         let line = step.line.view();
         let pid = line.pid;
-        let rule = rule_of(step.profile, &line);
-        self.push(alloc, pid, &rule.effect)?;
+        let done = effect_of_line(step.profile, &line);
+        self.push(alloc, pid, &done)?;
         Ok(())
     }
 }

@@ -111,7 +111,7 @@ impl<'a> Call<'a> {
     }
 
     /// What the call answers where it doesn't fail.
-    pub(crate) fn kind(&self) -> ResultKind
+    pub fn kind(&self) -> ResultKind
         ensures { result ≡ kind_of (call_view self.now) }
     {
         match self {

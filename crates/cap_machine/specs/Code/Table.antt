@@ -3,7 +3,6 @@ use Rattle.std.specs.Prelude.{◌≡◌, ℕ, ◌<◌, ◌==◌, ◌&&◌, if◌
 use Rattle.std.specs.Prelude.{slice_index_or}
 use Rattle.std.specs.Option.{option_map_or}
 use Rattle.std.specs.Vec.{vec_len}
-use Rattle.cap_machine.specs.declared.step.Step.{Step}
 use Rattle.cap_machine.specs.declared.cell.Cell.{Cell}
 use Rattle.cap_machine.specs.declared.cell.Cell.TheVariants.{Unknown}
 use Rattle.cap_machine.specs.declared.cell.Mode.{Mode}
@@ -13,7 +12,7 @@ use Rattle.cap_machine.specs.declared.table.Table.{Table}
 use Rattle.cap_machine.specs.State.{State}
 use Rattle.cap_machine.specs.Code.Cells.{cell_in_cells}
 use Rattle.cap_machine.specs.declared.rule.Effect.{Effect}
-use Rattle.cap_machine.specs.Touch.{Touch, touch, turn}
+use Rattle.cap_machine.specs.Touch.{Touch}
 use Rattle.cap_machine.specs.Effect.{effect_touch, effect_turn}
 use Rattle.cap_machine.specs.History.{touched, turned}
 
@@ -80,7 +79,7 @@ with_copy s parent child = record {
   mode = λ p. if p == child then s.mode parent else s.mode p;
 }
 
--- the state after an effect of process me, and after a step
+-- the state after an effect of process me
 abbrev pub effect_after : Effect → ℕ → State → State
 effect_after effect me s = record {
   cell = λ p f. touched (effect_touch effect me p f) s.cell p f;
@@ -90,9 +89,3 @@ effect_after effect me s = record {
 -- the state after these touches, in which no mode changes
 abbrev pub touched_by : (ℕ → ℕ → Touch) → State → State
 touched_by touches s = record { cell = λ p f. touched (touches p f) s.cell p f; mode = s.mode }
-
-abbrev pub step_after : Step → State → State
-step_after step s = record {
-  cell = λ p f. touched (touch step p f) s.cell p f;
-  mode = λ p. turned (turn step p) s.mode p;
-}

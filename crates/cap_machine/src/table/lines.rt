@@ -15,11 +15,12 @@ ghost use Rattle.cap_machine.specs.Effect.{FitsMade};
 ghost use Rattle.cap_machine.specs.Rule.{requirement, call_requirement, needs_requirement, check_of, reply};
 ghost use Rattle.cap_machine.specs.Judge.{fault};
 ghost use Rattle.cap_machine.specs.Check.{findings_of};
-ghost use Rattle.cap_machine.specs.Code.Table.{cell_of, state_of, Keeps, step_after, touched_by};
+ghost use Rattle.cap_machine.specs.Code.Table.{cell_of, state_of, Keeps, touched_by};
+ghost use Rattle.cap_machine.specs.History.{step_after};
 
-use crate::cell::{Cell, Mode, Profile, without_full_of};
+use crate::cell::{Cell, Mode, Profile};
 use crate::cells::LOW_FDS;
-use crate::effects::{effect_of_line, keeps_all, open_flag_of};
+use crate::effects::{effect_of_line, keeps_cells, open_flag_of};
 use crate::errno::{EBADF, ECAPMODE, ENOTCAPABLE};
 use crate::needs::{
     at_flags_needs_of, at_needs_of, fcntl_needs_of, fd_needs_of, mmap_needs_of, send_needs_of,
@@ -96,7 +97,7 @@ impl Table {
         ensures { IsTrue result → (answer : Answer) → reply answer ≡ Reply.Success
             → findings_of (call_requirement (calls.RightsLimit fd asked) answer) pid (state_of self.now) ≡ [] }
     {
-        self.may_have(pid, fd, without_full_of(&asked))
+        self.may_have(pid, fd, asked.without_full())
     }
 
     /// Whether nothing is found in a call at a directory that succeeded.
@@ -179,7 +180,7 @@ impl Table {
         ensures { IsTrue result → findings_of (needs_requirement marker fd rights) pid (state_of self.now) ≡ [] }
     {
         match marker {
-            NeedsMarker::Uses => self.may_have(pid, fd, without_full_of(&rights)),
+            NeedsMarker::Uses => self.may_have(pid, fd, rights.without_full()),
             NeedsMarker::Refused => true,
         }
     }
@@ -292,7 +293,7 @@ impl Table {
         if let Item::Call { call, answer } = &line.item {
             match call {
                 Call::OnFd(call, fd) => {
-                    if keeps_all(*call) {
+                    if keeps_cells(*call) {
                         return Ok(());
                     }
                     if let FdCall::Close = call {

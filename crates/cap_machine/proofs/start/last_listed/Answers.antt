@@ -2,7 +2,7 @@ use Rattle.std.proofs.Common.{ℕ, ◌==◌, List, [], map, take, ap, sym, ◌�
 use Rattle.std.proofs.lemmas.Bool.{cond-true, cond-false, ne_eqb}
 use Rattle.cap_machine.specs.declared.cell.Cell.{Cell}
 use Rattle.cap_machine.specs.Code.Starts.{added_by}
-use Rattle.cap_machine.specs.Standing.{last_cells}
+use Rattle.cap_machine.specs.State.{last_cells}
 use Rattle.cap_machine.proofs.Starts.{last_taken}
 use Rattle.cap_machine.proofs.start.last_listed.Goals as goal
 use Rattle.cap_machine.proofs.start.last_listed.Goals.{then-pid-entry, else-pid-entry}

@@ -1,7 +1,7 @@
 use Rattle.std.proofs.Common.{subst}
-use Rattle.cap_machine.specs.declared.limits.LimitsBefore.{LimitsBefore}
-use Rattle.cap_machine.specs.declared.limits.LimitsBefore.TheVariants as there
-use Rattle.cap_machine.specs.LimitsBefore.{AreLimitsBefore}
+use Rattle.cap_limits.specs.declared.limits.LimitsBefore.{LimitsBefore}
+use Rattle.cap_limits.specs.declared.limits.LimitsBefore.TheVariants as there
+use Rattle.cap_limits.specs.LimitsBefore.{AreLimitsBefore}
 use Rattle.cap_session.proofs.limits_text.process_text.Goals as goal
 
 pub returns-in_ok-limits_text-in-Limits-clause-text : goal.returns-in_ok-limits_text-in-Limits-clause-text

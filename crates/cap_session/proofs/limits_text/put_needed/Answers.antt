@@ -1,4 +1,4 @@
-use Rattle.cap_machine.specs.Limits.{row_of}
+use Rattle.cap_limits.specs.Limits.{row_of}
 use Rattle.cap_session.proofs.LimitTexts.{needed_put}
 use Rattle.cap_session.proofs.limits_text.put_needed.Goals as goal
 

@@ -1,6 +1,6 @@
 use Rattle.std.proofs.Common.{◌≡◌, ◌++◌, take}
 use Rattle.std.specs.Prelude.{map}
-use Rattle.cap_machine.specs.Limits.{row_of}
+use Rattle.cap_limits.specs.Limits.{row_of}
 use Rattle.cap_session.specs.LimitScripts.{script_text, unknown_lines}
 use Rattle.cap_session.proofs.limits_text.put_unknown.Given as goal
 

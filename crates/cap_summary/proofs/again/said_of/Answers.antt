@@ -4,9 +4,8 @@ use Rattle.cap_summary.proofs.again.said_of.Goals as goal
 
 pub returns : goal.returns
 returns c =
-    let rule = c.rule_of.ensures in
     let view = c.view-line.ensures in
     let pid : c.line.inside.pid ≡ c.args.step.now.line.pid =
     ap (λ (e : Entry). e.pid) (rw view at c.line.view_is) in
-    let requirement = rw view at rule.requirement in
+    let requirement = rw view at c.requirement_of_line-requirement.ensures in
     rw (pid, requirement) at c.said.ensures

@@ -8,7 +8,7 @@ use Rattle.cap_machine.proofs.machine.Machine.apply_line.Goals as goal
 
 pub returns : goal.returns
 returns c =
-    on_ok_weaker c.apply_view.result
+    on_ok_weaker c.apply_line_ref.result
     (λ moves. moves
     ∙ ap (λ (e : Entry). ended (start_state c.args.self.now) (step c.args.profile e ∷ [])) c.view.ensures)
-    c.apply_view.ensures
+    c.apply_line_ref.ensures

@@ -3,7 +3,8 @@ use Rattle.std.proofs.lemmas.Result.{on_ok_weaker}
 use Rattle.cap_machine.specs.declared.step.Step.{Step}
 use Rattle.cap_machine.specs.Steps.{step}
 use Rattle.cap_machine.specs.Check.{said}
-use Rattle.cap_machine.specs.Code.Table.{state_of, step_after}
+use Rattle.cap_machine.specs.Code.Table.{state_of}
+use Rattle.cap_machine.specs.History.{step_after}
 use Rattle.cap_machine.specs.State.{start_state}
 use Rattle.cap_machine.proofs.KnownTables.{state_known}
 use Rattle.cap_machine.proofs.OneMore.{state_kept}

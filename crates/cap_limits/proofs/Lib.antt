@@ -1,0 +1,20 @@
+mod LineRules
+pub mod LimitBits
+pub mod LimitFindings
+pub mod LimitEnter
+pub mod LimitLeast
+pub mod LimitBeside
+pub mod LimitEnough
+pub mod LimitSets
+pub mod LimitPlaces
+pub mod LimitScripts
+pub mod JoinedRights
+pub mod LiveBack
+pub mod BlockedBack
+pub mod MakerLimits
+pub mod RowOrder
+pub mod LeastRows
+pub mod AroundExec
+pub mod StandingBack
+pub mod StandingRows
+pub mod UnknownRows

@@ -1,0 +1,5 @@
+use Rattle.cap_limits.proofs.LimitEnough.{limits_are_enough as the_law}
+use Rattle.cap_limits.proofs.limit_laws.limits_are_enough.Goals as goal
+
+pub returns : goal.returns
+returns c = the_law

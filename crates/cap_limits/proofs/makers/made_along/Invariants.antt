@@ -1,0 +1,12 @@
+use Rattle.std.proofs.Common.{◌≡◌, take}
+use Rattle.cap_machine.specs.Steps.{steps}
+use Rattle.cap_machine.specs.History.{ended}
+use Rattle.cap_machine.specs.State.{start_state}
+use Rattle.cap_limits.specs.Code.Made.{cells_along}
+use Rattle.cap_limits.proofs.makers.made_along.Given as goal
+
+abbrev pub invariant-loop-line : goal.invariant-loop-line
+invariant-loop-line l = record {
+  state : start_state l.machine ≡ ended (start_state l.start) (steps l.profile (take l.line-index l.lines));
+  cells : l.cells.items ≡ cells_along (start_state l.start) (steps l.profile (take l.line-index l.lines));
+}

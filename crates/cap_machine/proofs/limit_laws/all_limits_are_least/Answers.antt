@@ -1,5 +1,0 @@
-use Rattle.cap_machine.proofs.LimitPlaces.{all_limits_are_least as the_law}
-use Rattle.cap_machine.proofs.limit_laws.all_limits_are_least.Goals as goal
-
-pub returns : goal.returns
-returns c = the_law

@@ -1,5 +1,0 @@
-use Rattle.cap_machine.proofs.LimitEnough.{limits_are_enough as the_law}
-use Rattle.cap_machine.proofs.limit_laws.limits_are_enough.Goals as goal
-
-pub returns : goal.returns
-returns c = the_law

@@ -1,9 +1,0 @@
-use Rattle.cap_machine.specs.Code.Wanted.{rights_of}
-use Rattle.cap_machine.proofs.AroundExec.{handed_on}
-use Rattle.cap_machine.proofs.live.process.LiveProcess.exec.Goals as goal
-
-pub returns-clause-rights : goal.returns-clause-rights
-returns-clause-rights c =
-    handed_on (rights_of c.args.self.now.until_exec) (rights_of c.args.self.now.after_exec)
-    (rights_of c.add_all.new.other)
-    (rights_of c.add_all.new.self) c.in_ok-add_all.ensures.added c.in_ok-add_all.ensures.empty
