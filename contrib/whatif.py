@@ -1,12 +1,12 @@
 #!/usr/bin/env python3
-"""An interactive session with `capcheck edit`: whatif [--profile N] TRACE
+"""An interactive session with `capcheck edit`: whatif [--profile N] [--start FILE] TRACE
 
 Puts lines into a trace, replaces and deletes them, and says which findings went away and which came. TRACE itself is not
 changed. The findings are those of the program capcheck, which holds the trace; nothing is judged here. Where standard input is
 no terminal, it is a script of the same commands, and no prompt is printed.
 
-Exit status: that of capcheck: 0 where nothing is found in the trace at the end, 1 where something is, 2 where TRACE was refused
-or a word of the command line is wrong, 3 where there is no answer.
+Exit status: that of capcheck: 0 where nothing is found in the trace at the end, 1 where something is, 2 where TRACE or FILE was
+refused or a word of the command line is wrong, 3 where there is no answer.
 """
 
 import argparse
@@ -88,6 +88,13 @@ REASONS = {
     "E13": "an input has no end",
 }
 
+START_REASONS = {
+    "E1": REASONS["E1"],
+    "E3": "the line must begin with the number of a process, from 1 to 99999 and above those of the lines before, and a space",
+    "E4": "the mode (in, out or unsure) is wrong, or the number of a descriptor",
+    "E5": "a descriptor is unknown, closed, or has rights: ALL, NONE, or names from rights(4) with | between them",
+}
+
 FINDINGS = {
     "missing": "it succeeded, and descriptor {0} lacks {1}",
     "expanded": "it asks for {1}, which descriptor {0} lacked, and it succeeded",
@@ -114,11 +121,12 @@ class Ended(Exception):
 
 
 class Refused(Exception):
-    """capcheck refused a command, or the trace at one of its file's lines."""
+    """capcheck refused a command, or the trace or the start at one of its file's lines."""
 
     def __init__(self, reply):
-        found = re.fullmatch(r"refused (E[0-9]+)(?: line ([0-9]+))?", reply)
-        self.code, self.line = (found[1], found[2]) if found else (reply, None)
+        found = re.fullmatch(r"refused (E[0-9]+)(?:( start)? line ([0-9]+))?", reply)
+        self.code, self.line = (found[1], found[3]) if found else (reply, None)
+        self.is_start = bool(found and found[2])
         super().__init__(self.code)
 
 
@@ -749,26 +757,33 @@ def beside(name):
     return own if os.path.isfile(own) and os.access(own, os.X_OK) else name
 
 
-def refused_line(trace, refused):
-    """Says at which line a trace was refused, why, and what is there."""
-    words = REASONS.get(refused.code, "it was refused")
-    if refused.code in ("E2", "E3"):
+def refused_line(plan, refused):
+    """Says at which line a trace or a start was refused, why, and what is there."""
+    reasons, path = (START_REASONS, plan.start) if refused.is_start else (REASONS, plan.trace)
+    words = reasons.get(refused.code, "it was refused")
+    if refused.code in ("E2", "E3") and not refused.is_start:
         words += " (a recording of truss? capcheck-truss makes a trace of one)"
-    where = f"{trace}:{refused.line}" if refused.line else trace
+    where = f"{path}:{refused.line}" if refused.line else path
     print(f"{SELF}: {where}: {words} ({refused.code})", file=sys.stderr)
-    if refused.line and os.path.isfile(trace):
-        with open(trace, "rb") as file:
+    if refused.line and os.path.isfile(path):
+        with open(path, "rb") as file:
             line = next(itertools.islice(file, int(refused.line) - 1, None), b"")
         print(f"    {shown(line[:200].rstrip())}", file=sys.stderr)
 
 
-def unopened(trace, why):
-    """Why a trace can't be opened or read, in the system's words where it has some."""
-    try:
-        os.close(os.open(trace, os.O_RDONLY | os.O_NONBLOCK))
-    except OSError as error:
-        return f"{trace}: {error.strerror}"
-    return f"{trace}: {why}"
+def unopened(plan, why):
+    """Why a trace or a start can't be opened or read, in the system's words where it has some."""
+    for path in filter(None, (plan.start, plan.trace)):
+        try:
+            os.close(os.open(path, os.O_RDONLY | os.O_NONBLOCK))
+        except OSError as error:
+            return f"{path}: {error.strerror}"
+    return f"{plan.trace}: {why}"
+
+
+def file_named(name):
+    """A file as capcheck takes its name."""
+    return name if name.startswith("/") else os.path.join(".", name)
 
 
 def plan_of():
@@ -777,12 +792,15 @@ def plan_of():
         epilog=f"`help` in a session lists its commands. The status is that of capcheck. Example: {SELF} server.trace")
     words.add_argument("trace", nargs="?", help="the trace; the file itself is not changed")
     words.add_argument("-p", "--profile", choices=["1", "2"], help="passed on to capcheck")
+    words.add_argument("-s", "--start", metavar="FILE", help="what is known before the trace, passed on to capcheck")
     words.add_argument("--capcheck", metavar="PATH", default=beside("capcheck"),
                        help="the program capcheck; by default the one beside this program, else the one on PATH")
     words.add_argument("--version", action="store_true", help="print the version of capcheck")
     plan = words.parse_args()
     if not plan.version and plan.trace in (None, "-"):
         words.error("a trace must be named, as a file")
+    if plan.start == "-":
+        words.error("a start must be a file")
     return plan
 
 
@@ -792,8 +810,8 @@ def run(plan):
     if not sys.stdin or not sys.stdout:
         raise ValueError("standard input and output must be open")
     options = ["--profile", plan.profile] if plan.profile else []
-    trace = plan.trace if plan.trace.startswith("/") else os.path.join(".", plan.trace)
-    session = Session(plan.capcheck, options, trace)
+    options += ["--start", file_named(plan.start)] if plan.start else []
+    session = Session(plan.capcheck, options, file_named(plan.trace))
     sys.stdin.reconfigure(errors="surrogateescape")
     sys.stdout.reconfigure(errors="backslashreplace")
     try:
@@ -806,10 +824,10 @@ def run(plan):
         sys.stdout.flush()
         return ended(*session.capcheck.end())
     except Refused as refused:
-        refused_line(plan.trace, refused)
+        refused_line(plan, refused)
         return 2
     except Ended as why:
-        print(f"{SELF}: {unopened(plan.trace, why) if why.code == 'E11' else why}", file=sys.stderr)
+        print(f"{SELF}: {unopened(plan, why) if why.code == 'E11' else why}", file=sys.stderr)
         return 3
     finally:
         session.capcheck.kill()

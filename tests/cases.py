@@ -11,9 +11,9 @@ too. In a case a block is, by the words after its ```:
                         space, the last before " -> " and the last of all hold what is left. Rows after "# " are notes
 
 With PROFILES, `both`, `first` or `second`, a command `capcheck COMMAND FILE` is run without and with --profile 1, and with
---profile 2, and in all ways that print the same: of check and denials the trace on standard input too; of check, where no start is
-given, a report of `edit`; of edit the session as a file of a script; of explain, denials and limits an empty start. `edit` takes
-each line of the limits. No run changes the files. Other words after `run` are `terminal`, where standard error is a terminal, and
+--profile 2, and in all ways that print the same: of check and denials the trace on standard input too; of check a report of `edit`;
+of edit the session as a file of a script; of the others than check, where none is given, an empty start. `edit` takes each line of
+the limits. No run changes the files. Other words after `run` are `terminal`, where standard error is a terminal, and
 `part`, where ... stands for any text. A block that is `escaped` has the escapes of Python, of which a backslash at the end takes the
 last line feed away, and {TEXT*N}, which is TEXT so many times.
 
@@ -179,12 +179,13 @@ def ways(words, given, wanted, files):
         yield [*words, harness.save("as.script", given)], "", wanted
     if command in ("check", "denials"):
         yield ["capcheck", command, *others], files[file], wanted
+    start = others[others.index("--start") :][:2] if "--start" in others else []
     if command == "limits" and wanted.status == 0:
         lines, inserted = len(reference.load(files[file])[0]), re.findall("^insert ", wanted.out, re.M)
-        yield ["capcheck", "edit", file], wanted.out, Answer(None, "".join(f"ok {lines + at}\n" for at, _ in enumerate(inserted, 1)), "")
-    if command == "check" and not others:
-        yield ["capcheck", "edit", file], "report\n", wanted
-    if command in ("explain", "denials", "limits") and "--start" not in others:
+        yield ["capcheck", "edit", file, *start], wanted.out, Answer(None, "".join(f"ok {lines + at}\n" for at, _ in enumerate(inserted, 1)), "")
+    if command == "check":
+        yield ["capcheck", "edit", file, *others], "report\n", wanted
+    if command != "check" and not start:
         yield [*words, "--start", harness.save("no.start", "")], given, wanted
 
 
@@ -317,7 +318,7 @@ def second_reading(words, given, files):
         return None
     profile, start = int(numbers[0]), files.get(options.get("--start"), "")
     if command == "edit":
-        return reference.replies(files[trace], files[rest[0]] if rest else given, profile)
+        return reference.replies(files[trace], files[rest[0]] if rest else given, profile, start)
     position = [int(rest[0]) if rest else None] if command in ("explain", "limits") else []
     return JUDGED[command](files[trace], *position, profile, start)
 

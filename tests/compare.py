@@ -424,7 +424,7 @@ class Run(NamedTuple):
 
     def wanted(self):
         if self.command == "edit":
-            return reference.replies(self.trace, self.script, self.profile)
+            return reference.replies(self.trace, self.script, self.profile, self.start or "")
         position = [self.position] if self.command in ("explain", "limits") else []
         return ANSWERS[self.command](self.trace, *position, self.profile, self.start or "")
 
@@ -442,11 +442,9 @@ class Run(NamedTuple):
         """What is wrong with a script of limits that the program printed: replies of its `edit` other than ok, and new findings."""
         harness.tried["scripts of limits given back"] += 1
         check = self._replace(command="check", position=None)
-        trace, kept = reference.edited(reference.load(self.trace)[0], script, reference.found_in(check.got()[0]))
-        replies, _ = Run(self.trace, self.profile, "edit", script=script + "report\n").got()
+        _, kept = reference.edited(reference.load(self.trace)[0], script, reference.found_in(check.got()[0]))
+        replies, _ = self._replace(command="edit", position=None, script=script + "report\n").got()
         *replies, new = replies.split("\n", len(kept.new()))
-        if self.start is not None:  # which `edit` doesn't take
-            new, _ = check._replace(trace="".join(f"{line}\n" for line in trace)).got()
         refused = [reply for reply in replies if not re.fullmatch("ok [0-9]+", reply)]
         return refused + kept.went_and_came(reference.found_in(new))[1]
 
@@ -482,7 +480,7 @@ def runs_of(maker):
     start = maker.start()
     used = maker.used()
     for profile in (1, 2):
-        yield Run(trace, profile, "edit", script=script)
+        yield Run(trace, profile, "edit", maker.positions.choice((None, start)), script)
         for begin in (None, start):
             yield Run(trace, profile, "check", begin)
             yield Run(trace, profile, "explain", begin, position=maker.position(trace))
@@ -504,7 +502,8 @@ def long_edits(maker):
         commands.append(f"delete {at}" if verb == "delete" else f"{verb} {at} {line}")
         count += {"insert": 1, "replace": 0, "delete": -1}[verb]
         commands += maker.choice((["changes"], ["changes"], ["report"], ["report", "changes"], [], [f"report {at} {at}", "changes"]))
-    return Run("\n".join(lines) + "\n", maker.choice((1, 2)), "edit", script="\n".join([*commands, "changes"]) + "\n")
+    start = "".join(f"{maker.start_line(pid)}\n" for pid in sorted(PIDS, key=int))
+    return Run("\n".join(lines) + "\n", maker.choice((1, 2)), "edit", maker.choice((None, start)), "\n".join([*commands, "changes"]) + "\n")
 
 
 def cases(seed):

@@ -77,7 +77,7 @@ BY_HELP = (
 INSTALLED = (
     (["capcheck", ""], ALL), (["capcheck", "check", "--st"], "--start"), (["capcheck", "edit", "--prof"], "--profile"),
     (["capcheck", "--vers"], "--version"), (["capcheck-truss", "--out"], "--output"), (["capcheck-truss", "--sta"], "--start"),
-    (["capcheck-annotate", "--cap"], "--capcheck"), (["capcheck-whatif", "--"], "--capcheck --help --profile --version"),
+    (["capcheck-annotate", "--cap"], "--capcheck"), (["capcheck-whatif", "--"], "--capcheck --help --profile --start --version"),
     (["capcheck-whatif", "-p"], "-p"), (["capcheck-annotate", "--format", "h"], "html"), (["capcheck-whatif", "--profile", ""], "1 2"),
     (["capcheck-truss", "--pid", ""], ""), (["capcheck-truss", "--ker"], "--kernel"), (["capcheck-truss", "--kernel", ""], "12 13 14 15"),
     (["capcheck-whatif", "--capcheck", "-"], ""), (["/none/capcheck", "-"], ""),

@@ -750,14 +750,15 @@ def by_line(found):
     return lines
 
 
-def reply(trace, line, profile, last):
-    """The reply to a line of a script. The trace is a list, which edits change, and so do they what is kept of the last report."""
+def reply(trace, line, profile, known, last):
+    """The reply to a line of a script, from a start that was read. The trace is a list, which edits change, and so do they what is kept
+    of the last report."""
     if len(line) > 1056:
         raise Refused(1)
     if line == "count":
         return f"{len(trace)}\n"
     if line in ("report", "changes"):
-        found = findings(trace, profile)
+        found = findings(trace, profile, known)
         told = report(found) if line == "report" else last.changes(found)
         last.keep(found, len(trace))
         return told
@@ -765,7 +766,7 @@ def reply(trace, line, profile, last):
         first, last = int(words[1]), int(words[2])
         if not 1 <= first <= last <= len(trace):
             raise Refused(7)
-        return report([(at, text) for at, text in findings(trace, profile) if first <= at <= last])
+        return report([(at, text) for at, text in findings(trace, profile, known) if first <= at <= last])
     words = re.fullmatch(f"(show|delete) {NUMBER}", line) or re.fullmatch(f"(insert|replace) {NUMBER} (.*)", line)
     if not words:
         raise Refused(10)
@@ -784,9 +785,9 @@ def reply(trace, line, profile, last):
     return f"ok {len(trace)}\n"
 
 
-def replies(text, script, profile=1):
+def replies(text, script, profile=1, start=""):
     """What the program writes for a trace and a script, and its exit status."""
-    trace, refusal = load(text)
+    trace, known, refusal = opened(text, start)
     if refusal:
         return refusal, 2
     out, last = [], Origins()
@@ -794,10 +795,10 @@ def replies(text, script, profile=1):
         if len(line) <= 1056 and is_skipped(line):
             continue
         try:
-            out.append(reply(trace, line, profile, last))
+            out.append(reply(trace, line, profile, known, last))
         except Refused as fault:
             out.append(f"refused E{fault.args[0]}\n")
-    return "".join(out), 1 if findings(trace, profile) else 0
+    return "".join(out), 1 if findings(trace, profile, known) else 0
 
 
 def edited(trace, script, found):
@@ -806,7 +807,7 @@ def edited(trace, script, found):
     kept.keep(found, len(trace))
     for line in lines_of(script):
         if not is_skipped(line):
-            reply(trace, line, 1, kept)
+            reply(trace, line, 1, None, kept)
     return trace, kept
 
 
@@ -1078,14 +1079,13 @@ def main():
         for word in words.split():
             command.add_argument(word.rstrip("?"), nargs="?" if word.endswith("?") else None, type=int if word[0] == "K" else str)
         command.add_argument("--profile", type=int, choices=(1, 2), default=1)
-        if name != "edit":
-            command.add_argument("--start")
+        command.add_argument("--start")
     words = parser.parse_args()
+    start = text_of(words.start) if words.start is not None else ""
     trace, profile = text_of(words.trace), words.profile
     if words.command == "edit":
-        out, status = replies(trace, text_of(words.script), profile)
+        out, status = replies(trace, text_of(words.script), profile, start)
     else:
-        start = text_of(words.start) if words.start is not None else ""
         answers = {"check": check, "denials": denials, "explain": explained, "limits": limits}
         out, status = answers[words.command](trace, *([words.K] if "K" in words else []), profile, start)
     sys.stdout.buffer.write(out.encode("latin1"))

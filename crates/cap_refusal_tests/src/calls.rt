@@ -28,7 +28,7 @@ pub enum Call<'a> {
     Range(&'a Start, &'a Summary, (usize, usize), &'a [usize]),
     Ask(&'a Session, &'a Query, &'a str),
     ReportFrom(&'a Session, &'a Start),
-    Denials(&'a Session, &'a Start),
+    Denials(&'a Session),
 }
 
 /// Makes a call on a trace.
@@ -60,14 +60,9 @@ fn answers(alloc: Global, call: &Call<'_>) -> Result<bool, NoMemory> {
         Call::Range(start, summary, range, places) => {
             resolves(alloc, start, summary, *range, places)
         }
-        Call::Ask(session, query, text) => {
-            let start = Start::unknown(alloc);
-            let is_right = answers_query(session, &start, query, text);
-            drop(start);
-            is_right
-        }
+        Call::Ask(session, query, text) => answers_query(session, query, text),
         Call::ReportFrom(session, start) => reports_from(session, start),
-        Call::Denials(session, start) => has_denials(session, start),
+        Call::Denials(session) => has_denials(session),
     }
 }
 

@@ -3,7 +3,7 @@
 use crate::calls::{Call, is_answered, tried};
 use crate::machine::{CELLS, TRACE, start_of};
 use crate::marks::right;
-use crate::sessions::{Query, REPORT, ask_each, is_at, session_of, session_with};
+use crate::sessions::{Query, REPORT, ask_each, is_at, session_from, session_of};
 use cap_machine::{Cell, Mode, NoMemory, Start};
 use cap_session::{Refused, Session, StartFault, parse_start};
 use std::alloc::Global;
@@ -57,11 +57,11 @@ static DENIED: [&str; 5] = [
     "101 read(0) RET -1 errno 93",
 ];
 
-/// Asks for the denials from a start: whether they are those of these lines.
-pub fn has_denials(session: &Session, start: &Start) -> Result<bool, NoMemory> {
+/// Asks for the denials: whether they are those of these lines.
+pub fn has_denials(session: &Session) -> Result<bool, NoMemory> {
     let text =
         "1 100 write lacks 0 CAP_WRITE\n4 101 open inside\n5 101 read unexplained\ndenials 3\n";
-    match &session.denials(start) {
+    match &session.denials() {
         Ok(answer) => Ok(answer.as_slice() == text.as_bytes()),
         Err(Refused::Memory) => Err(NoMemory),
         Err(_) => Ok(false),
@@ -71,17 +71,11 @@ pub fn has_denials(session: &Session, start: &Start) -> Result<bool, NoMemory> {
 /// The start has CAP_READ on descriptor 0.
 #[test]
 fn denials_refused(rt: HostRuntime) -> Result<(), Fail> {
-    let session = session_with(rt.alloc(), &DENIED)?;
-    let is_right = match start_of(rt.alloc(), CELLS) {
-        Ok(start) => {
-            let has_denials = is_answered(rt.alloc(), &Call::Denials(&session, &start));
-            drop(start);
-            Ok(has_denials && session.count() == 5)
-        }
-        Err(fail) => Err(fail),
-    };
+    let session = session_from(rt.alloc(), CELLS, &DENIED)?;
+    let has_denials = is_answered(rt.alloc(), &Call::Denials(&session));
+    let is_right = has_denials && session.count() == 5;
     drop(session);
-    right(rt.alloc(), is_right?, "a session has its denials")
+    right(rt.alloc(), is_right, "a session has its denials")
 }
 
 /// Reads a start: whether it is that of the text.

@@ -1,10 +1,10 @@
 //! Edits of a session, and what it shows.
 
 use crate::calls::{Call, is_answered};
-use crate::machine::{TRACE, lines_of};
+use crate::machine::{Before, TRACE, lines_of, start_of};
 use crate::marks::{Mark, lacked, right};
-use cap_machine::{NoMemory, Profile, Start};
-use cap_session::{Edit, EditOutcome, Refused, Session};
+use cap_machine::{NoMemory, Profile};
+use cap_session::{Edit, EditOutcome, Refused, Session, Setting};
 use std::alloc::Global;
 use std::test::Fail;
 
@@ -22,10 +22,17 @@ pub fn session_of(alloc: Global) -> Result<Session, Fail> {
     session_with(alloc, &TRACE)
 }
 
-/// A session in profile 2 of some lines.
+/// A session in profile 2 of some lines, from the usual start.
 pub fn session_with(alloc: Global, lines: &[&str]) -> Result<Session, Fail> {
+    session_from(alloc, Before::Usual, lines)
+}
+
+/// A session in profile 2 of some lines, from a start.
+pub fn session_from(alloc: Global, before: Before, lines: &[&str]) -> Result<Session, Fail> {
     let lines = lines_of(alloc, lines)?;
-    let mut session = Session::with_profile(alloc, 100, Profile::Two)?;
+    let start = start_of(alloc, before)?;
+    let profile = Profile::Two;
+    let mut session = Session::with_setting(alloc, 100, Setting { profile, start })?;
     match session.load(lines) {
         Ok(_) => Ok(session),
         Err(refused) => {
@@ -318,27 +325,22 @@ pub enum Query {
     Limits(Option<usize>),
 }
 
-/// What a session answers, from this start where it takes one. No line that it explains is clean.
-fn asked(session: &Session, start: &Start, query: &Query) -> Result<Vec<u8>, Refused> {
+/// What a session answers. No line that it explains is clean.
+fn asked(session: &Session, query: &Query) -> Result<Vec<u8>, Refused> {
     match query {
         Query::Range(first, last) => session.report_range(*first, *last),
         Query::Show(position) => session.show(*position),
-        Query::Explain(position) => match session.explain(*position, start)? {
+        Query::Explain(position) => match session.explain(*position)? {
             line if line.is_clean => Err(Refused::Position),
             line => Ok(line.text),
         },
-        Query::Limits(at) => session.limits(*at, start),
+        Query::Limits(at) => session.limits(*at),
     }
 }
 
 /// Asks that: whether this is the answer.
-pub fn answers_query(
-    session: &Session,
-    start: &Start,
-    query: &Query,
-    text: &str,
-) -> Result<bool, NoMemory> {
-    match &asked(session, start, query) {
+pub fn answers_query(session: &Session, query: &Query, text: &str) -> Result<bool, NoMemory> {
+    match &asked(session, query) {
         Ok(answer) => Ok(answer.as_slice() == text.as_bytes()),
         Err(Refused::Memory) => Err(NoMemory),
         Err(_) => Ok(false),

@@ -7,8 +7,8 @@ use cap_machine::Profile;
 use cap_session::ExplainOutcome::{self, Ended};
 use cap_session::{
     Failed, Outcome, Source, check_stream, check_stream_as, check_stream_from,
-    check_stream_from_as, denials_stream, edit_stream, edit_stream_as, explain_stream,
-    limits_stream,
+    check_stream_from_as, denials_stream, edit_stream, edit_stream_as, edit_stream_from_as,
+    explain_stream, limits_stream,
 };
 use cap_session_tests::devices::{Kept, Pieces};
 use std::alloc::Global;
@@ -72,6 +72,7 @@ enum Call {
     CheckFromAs,
     Edit,
     EditAs,
+    EditFrom,
     Denials,
     Limits,
     LimitsBefore,
@@ -100,6 +101,7 @@ fn made(
         Call::CheckFromAs => check_stream_from_as(alloc, two, 4096, start, trace, kept),
         Call::Edit => edit_stream(alloc, 4096, trace, script, kept),
         Call::EditAs => edit_stream_as(alloc, two, 4096, trace, script, kept),
+        Call::EditFrom => edit_stream_from_as(alloc, two, 4096, start, trace, script, kept),
         Call::Denials => denials_stream(alloc, two, 4096, start, trace, kept),
         Call::Limits => return limits_stream(alloc, two, 4096, None, start, trace, kept),
         Call::LimitsBefore => return limits_stream(alloc, two, 4096, Some(2), start, trace, kept),
@@ -211,7 +213,7 @@ fn replies(alloc: Global, call: Call) -> bool {
     may_be && gives(alloc, call, Outcome::Clean, REPLIES[0].1)
 }
 
-static EDITS: [Call; 2] = [Call::Edit, Call::EditAs];
+static EDITS: [Call; 3] = [Call::Edit, Call::EditAs, Call::EditFrom];
 
 #[test]
 fn edit_streams_refused(rt: HostRuntime) -> Result<(), Fail> {

@@ -70,12 +70,12 @@ answers-append limit trace (d ∷ edits) (v ∷ ws) e w same = ap (λ more. answ
 pub record HasMade (old new : SessionState) (edits : List Edit) (answered : List (Result ℕ Refused)) : Type 0 where
   pub each : length answered ≡ length edits
   pub limit : new.limit ≡ old.limit
-  pub profile : new.profile ≡ old.profile
+  pub setting : new.setting ≡ old.setting
   pub trace : new.trace ≡ after old.limit old.trace edits (ran_out answered)
   pub answers : answered ≡ answers old.limit old.trace edits (ran_out answered)
 
 pub made_none : (s : SessionState) → HasMade s s [] []
-made_none s = record { each = refl; limit = refl; profile = refl; trace = refl; answers = refl }
+made_none s = record { each = refl; limit = refl; setting = refl; trace = refl; answers = refl }
 
 -- whether memory ran out, for one answer more
 ran_out-append : (answered : List (Result ℕ Refused)) (a : Result ℕ Refused)
@@ -84,16 +84,16 @@ ran_out-append answered a = map-append is_out_of_memory answered (a ∷ [])
 
 pub made_more : (old mid new : SessionState) (edits : List Edit) (answered : List (Result ℕ Refused)) (e : Edit)
     (a : Result ℕ Refused) →
-    HasMade old mid edits answered → new.limit ≡ mid.limit → new.profile ≡ mid.profile
+    HasMade old mid edits answered → new.limit ≡ mid.limit → new.setting ≡ mid.setting
     → Does mid new (edited mid.limit mid.trace e) a → HasMade old new (edits ++ e ∷ []) (answered ++ a ∷ [])
-made_more old mid new edits answered e a before limit profile step =
+made_more old mid new edits answered e a before limit setting step =
     let same : length (ran_out answered) ≡ length edits = length-map answered is_out_of_memory ∙ before.each in
     let trace = rw (before.limit, before.trace) at step.trace in
     let seen = rw (before.limit, before.trace) at step.answers in
     record {
       each = omega (arith, before.each, length-append answered (a ∷ []), length-append edits (e ∷ []));
       limit = limit ∙ before.limit;
-      profile = profile ∙ before.profile;
+      setting = setting ∙ before.setting;
       trace =
           rw (ran_out-append answered a, after-append old.limit old.trace edits (ran_out answered) e (is_out_of_memory a) same)
           trace;
@@ -106,9 +106,9 @@ made_more old mid new edits answered e a before limit profile step =
 -- the edit at the index is made, after those before it
 pub made_next : (old mid new : SessionState) (edits : List Edit) (i : ℕ) (d : Edit) (answered : List (Result ℕ Refused))
     (a : Result ℕ Refused) →
-    HasMade old mid (take i edits) answered → i < length edits → new.limit ≡ mid.limit → new.profile ≡ mid.profile
+    HasMade old mid (take i edits) answered → i < length edits → new.limit ≡ mid.limit → new.setting ≡ mid.setting
     → Does mid new (edited mid.limit mid.trace (get_or edits i d)) a
     → HasMade old new (take (i + 1) edits) (answered ++ a ∷ [])
-made_next old mid new edits i d answered a before within limit profile step =
+made_next old mid new edits i d answered a before within limit setting step =
     rw (take_more edits i d within)
-    (made_more old mid new (take i edits) answered (get_or edits i d) a before limit profile step)
+    (made_more old mid new (take i edits) answered (get_or edits i d) a before limit setting step)

@@ -9,7 +9,7 @@ use Rattle.cap_session.specs.Devices.{SinkState}
 use Rattle.cap_session.specs.Lines.{whole_lines, last_piece}
 use Rattle.cap_session.specs.Scripts.{Answers, Run, Replied, Broken, long_piece, script_lines, tail, due}
 use Rattle.cap_session.specs.Replies.{ScriptState}
-use Rattle.cap_machine.specs.declared.cell.Profile.{Profile}
+use Rattle.cap_session.specs.declared.session.Setting.{Setting}
 use Rattle.cap_session.proofs.Cuts.{whole_lines-append, last_piece-append}
 use Rattle.cap_session.proofs.Runs.{is_long, is_short, answers_cut}
 
@@ -17,9 +17,9 @@ use Rattle.cap_session.proofs.Runs.{is_long, is_short, answers_cut}
 abbrev pub cut : List ℕ → List ℕ
 cut line = take 1057 line
 
-pub answers_uncut : (profile : Profile) (t : ScriptState) (line text : List ℕ) (u : ScriptState)
-    → Answers profile t line text u → Answers profile t (take 1057 line) text u
-answers_uncut profile t line text u is =
+pub answers_uncut : (setting : Setting) (t : ScriptState) (line text : List ℕ) (u : ScriptState)
+    → Answers setting t line text u → Answers setting t (take 1057 line) text u
+answers_uncut setting t line text u is =
     elim (cases_lt 1056 (length line)) [
       | inl long ↦
           let past : 1056 < length (take 1057 line) = simp length-take (omega arith) in
@@ -27,17 +27,17 @@ answers_uncut profile t line text u is =
       | inr short ↦ rw (take_all 1057 line (omega arith)) is
     ]
 
-pub run_same : (profile : Profile) (t : ScriptState) (xs ys : List (List ℕ)) (text : List ℕ) (u : ScriptState)
-    → map cut xs ≡ map cut ys → Run profile t xs text u → Run profile t ys text u
-run_same profile t [] [] text u same run = run
-run_same profile t [] (y ∷ ys) text u same run = cc
-run_same profile t (x ∷ xs) [] text u same run = cc
-run_same profile t (x ∷ xs) (y ∷ ys) text u same run =
+pub run_same : (setting : Setting) (t : ScriptState) (xs ys : List (List ℕ)) (text : List ℕ) (u : ScriptState)
+    → map cut xs ≡ map cut ys → Run setting t xs text u → Run setting t ys text u
+run_same setting t [] [] text u same run = run
+run_same setting t [] (y ∷ ys) text u same run = cc
+run_same setting t (x ∷ xs) [] text u same run = cc
+run_same setting t (x ∷ xs) (y ∷ ys) text u same run =
     let first : take 1057 x ≡ take 1057 y = cc in
     let others : map cut xs ≡ map cut ys = cc in
-    let is = answers_cut profile t y run.0 run.1
-    (subst (λ (l : List ℕ). Answers profile t l run.0 run.1) first (answers_uncut profile t x run.0 run.1 run.3)) in
-    (run.0, run.1, run.2, is, run_same profile run.1 xs ys run.2 u others run.4, run.5)
+    let is = answers_cut setting t y run.0 run.1
+    (subst (λ (l : List ℕ). Answers setting t l run.0 run.1) first (answers_uncut setting t x run.0 run.1 run.3)) in
+    (run.0, run.1, run.2, is, run_same setting run.1 xs ys run.2 u others run.4, run.5)
 
 take_again : (n : ℕ) (h x : List ℕ) → take n (take n h ++ x) ≡ take n (h ++ x)
 take_again zero h x = refl
@@ -123,17 +123,17 @@ pieces_same g p =
     ∙ ap (map cut) (sym (append_assoc before (whole_lines last p) (long_piece (last_piece last p))))
     ∙ rw (whole_lines-append [] g p, last_piece-append [] g p) refl
 
-pub replied_same : (profile : Profile) (t : ScriptState) (w0 w1 : SinkState) (xs ys : List (List ℕ)) (u : ScriptState)
-    → map cut xs ≡ map cut ys → Replied profile t w0 w1 xs u → Replied profile t w0 w1 ys u
-replied_same profile t w0 w1 xs ys u same r = record {
+pub replied_same : (setting : Setting) (t : ScriptState) (w0 w1 : SinkState) (xs ys : List (List ℕ)) (u : ScriptState)
+    → map cut xs ≡ map cut ys → Replied setting t w0 w1 xs u → Replied setting t w0 w1 ys u
+replied_same setting t w0 w1 xs ys u same r = record {
   text = r.text;
-  run = run_same profile t xs ys r.text u same r.run;
+  run = run_same setting t xs ys r.text u same r.run;
   wrote = r.wrote;
 }
 
-pub broken_same : (profile : Profile) (t : ScriptState) (w0 w1 : SinkState) (xs ys : List (List ℕ))
-    → map cut xs ≡ map cut ys → Broken profile t w0 w1 xs → Broken profile t w0 w1 ys
-broken_same profile t w0 w1 xs ys same b =
+pub broken_same : (setting : Setting) (t : ScriptState) (w0 w1 : SinkState) (xs ys : List (List ℕ))
+    → map cut xs ≡ map cut ys → Broken setting t w0 w1 xs → Broken setting t w0 w1 ys
+broken_same setting t w0 w1 xs ys same b =
     let n : ℕ = length b.first in
     let front : take n xs ≡ b.first = ap (take n) b.cut ∙ take_at b.first b.others n refl in
     let cuts : map cut b.first ≡ map cut (take n ys) = ap (map cut) (sym front) ∙ sym (take-map cut n xs)
@@ -144,6 +144,6 @@ broken_same profile t w0 w1 xs ys same b =
       cut = sym (take-append-drop n ys);
       text = b.text;
       left = b.left;
-      run = run_same profile t b.first (take n ys) b.text b.left cuts b.run;
+      run = run_same setting t b.first (take n ys) b.text b.left cuts b.run;
       wrote = b.wrote;
     }

@@ -90,22 +90,22 @@ process_read t k limits facts =
     (unknown_read unknown (last ∷ []) (entering_read t limits.pid (k + length rows) limits.entering facts.pid))
 
 pub limits_before_are_accepted : LimitsBeforeAreAccepted
-limits_before_are_accepted profile start t k there.NoLine spelled proper are left replies run =
-    let accepts = nothing_accepted profile t left replies proper.1 run in
+limits_before_are_accepted profile start t k there.NoLine spelled proper are setting left replies run =
+    let accepts = nothing_accepted setting t left replies proper.1 run in
     (accepts, λ ok. leaves t left.trace [] replies tt accepts ok)
-limits_before_are_accepted profile start t k (there.Begins p) spelled proper are left replies run =
+limits_before_are_accepted profile start t k (there.Begins p) spelled proper are setting left replies run =
     let (before, line, later, cut, place, begins, own) = are in
     let long : length t ≡ length (before ++ line ∷ later) = ap (λ (u : List Entry). length u) cut in
     let high : k ≤ length t = omega (arith, place, long, length-append before (line ∷ later)) in
     let pid : IsPid p = subst IsPid (sym own) (line_pid t before later line cut proper.0) in
-    let accepts = beginning_accepted profile t left p k replies proper.1 high pid run in
+    let accepts = beginning_accepted setting t left p k replies proper.1 high pid run in
     (accepts, λ ok. leaves t left.trace (beginning_script p k) replies tt accepts ok)
-limits_before_are_accepted profile start t k (there.Limits limits) spelled proper are left replies run =
+limits_before_are_accepted profile start t k (there.Limits limits) spelled proper are setting left replies run =
     let facts = process_facts profile start t k limits spelled proper are in
     let (before, line, later, cut, place, least, no_start) = are in
     let long : length t ≡ length (before ++ line ∷ later) = ap (λ (u : List Entry). length u) cut in
     let high : k ≤ length t = omega (arith, place, long, length-append before (line ∷ later)) in
-    let accepts = process_accepted profile t left k limits replies proper.1 (omega (arith, place)) high facts run in
+    let accepts = process_accepted setting t left k limits replies proper.1 (omega (arith, place)) high facts run in
     (accepts, λ ok. leaves t left.trace (limits_script t k limits) replies (process_read t k limits facts) accepts ok)
 
 -- ---- after the lines that made descriptors
@@ -121,7 +121,7 @@ makers_read t (made.Unknown limit ∷ more) are =
     makers_read t more (All-tail (IsSpelledRow t) (made.Unknown limit) more are)
 
 pub maker_limits_are_accepted : MakerLimitsAreAccepted
-maker_limits_are_accepted profile start t rows spelled proper are left replies run =
+maker_limits_are_accepted profile start t rows spelled proper are setting left replies run =
     let facts = maker_facts profile start t rows spelled proper are in
-    let accepts = makers_accepted profile t left rows replies proper.1 facts run in
+    let accepts = makers_accepted setting t left rows replies proper.1 facts run in
     (accepts, λ ok. leaves t left.trace (makers_script rows) replies (makers_read t rows facts) accepts ok)

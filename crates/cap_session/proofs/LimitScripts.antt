@@ -25,7 +25,7 @@ use Rattle.cap_limits.specs.Limits.{Row, row_of as line_row}
 use Rattle.cap_limits.specs.declared.limits.Limits.{Limits}
 use Rattle.cap_machine.specs.Judge.{is_forbidden}
 use Rattle.cap_machine.specs.Rule.{requirement, call_requirement, item_requirement}
-use Rattle.cap_machine.specs.declared.cell.Profile.{Profile}
+use Rattle.cap_session.specs.declared.session.Setting.{Setting}
 use Rattle.cap_limits.specs.declared.makers.MakerLimit.{MakerLimit}
 use Rattle.cap_limits.specs.declared.makers.MakerRow.{MakerRow}
 use Rattle.cap_limits.specs.declared.makers.MakerRow.TheVariants as made
@@ -122,16 +122,16 @@ replied false t u at put reply full high (false, moves, is) =
       fewer = leb-false _ _ full;
     })
 
-inserts : (profile : Profile) (t u : ScriptState) (at : ℕ) (line : Entry) (reply : List ℕ) → length t.trace ≤ 1000000
-    → (fits : FitsTrace (length t.trace) at line) → Answers profile t (bytes_of (insertion at line)) reply u →
+inserts : (setting : Setting) (t u : ScriptState) (at : ℕ) (line : Entry) (reply : List ℕ) → length t.trace ≤ 1000000
+    → (fits : FitsTrace (length t.trace) at line) → Answers setting t (bytes_of (insertion at line)) reply u →
     Does t.trace at fits.put reply u.trace
-inserts profile t u at line reply few fits is =
+inserts setting t u at line reply few fits is =
     let small = fits.small in
     let short : nat_lt 1056 (length (bytes_of (insertion at line))) ≡ false =
     le-ltb _ _ (insertion_room at line (omega (arith, small)) fits.short) in
-    let does : Commands profile t (asked (bytes_of (insertion at line))) reply u = rw short at is in
-    let edit = edit_replied profile t u reply (Insert at (record { ref_ptr = (0, 0); now = canon line }))
-    (subst (λ (a : Asked). Commands profile t a reply u) (asks_insert at line small) does) in
+    let does : Commands setting t (asked (bytes_of (insertion at line))) reply u = rw short at is in
+    let edit = edit_replied setting t u reply (Insert at (record { ref_ptr = (0, 0); now = canon line }))
+    (subst (λ (a : Asked). Commands setting t a reply u) (asks_insert at line small) does) in
     let made = inserted_is _ t.trace at line fits.put refl fits.low fits.high fits.read in
     replied _ t.trace u.trace at fits.put reply refl fits.high
     (subst (λ (r : Result (List Entry) Refused). EditReplied t.trace r reply u.trace) made edit)
@@ -140,28 +140,28 @@ comment_skipped : (words : List (List ℕ)) → is_skipped (bytes_of (comment wo
 comment_skipped [] = refl
 comment_skipped (w ∷ ws) = refl
 
-skips : (profile : Profile) (t u : ScriptState) (words : List (List ℕ)) (reply : List ℕ) → FitsComment words
-    → Answers profile t (bytes_of (comment words)) reply u → (reply ≡ []) × (u ≡ t)
-skips profile t u words reply fits is =
+skips : (setting : Setting) (t u : ScriptState) (words : List (List ℕ)) (reply : List ℕ) → FitsComment words
+    → Answers setting t (bytes_of (comment words)) reply u → (reply ≡ []) × (u ≡ t)
+skips setting t u words reply fits is =
     let short : nat_lt 1056 (length (bytes_of (comment words))) ≡ false = le-ltb _ _ fits.short in
     let skipped = comment_skipped words in
     rw (short, skipped) at is
 
 -- ---- all lines
 
-accepts : (profile : Profile) (t left : ScriptState) (script : List ScriptLine) (replies : List ℕ)
-    → length t.trace ≤ 1000000 → Fits (length t.trace) script → Run profile t (map bytes_of script) replies left
+accepts : (setting : Setting) (t left : ScriptState) (script : List ScriptLine) (replies : List ℕ)
+    → length t.trace ≤ 1000000 → Fits (length t.trace) script → Run setting t (map bytes_of script) replies left
     → Accepts t.trace script replies left.trace
-accepts profile t left [] replies few fits run = (run.0, ap (λ (s : ScriptState). s.trace) run.1)
-accepts profile t left (comment words ∷ more) replies few fits run =
+accepts setting t left [] replies few fits run = (run.0, ap (λ (s : ScriptState). s.trace) run.1)
+accepts setting t left (comment words ∷ more) replies few fits run =
     let (first, mid, rest, is, others, cut) = run in
-    let none = skips profile t mid words first fits.0 is in
+    let none = skips setting t mid words first fits.0 is in
     let same : replies ≡ rest = cut ∙ ap (λ (f : List ℕ). f ++ rest) none.0 in
-    subst (λ (r : List ℕ). Accepts t.trace more r left.trace) (sym same) (accepts profile t left more rest few fits.1
-    (subst (λ (u : ScriptState). Run profile u (map bytes_of more) rest left) none.1 others))
-accepts profile t left (insertion at line ∷ more) replies few fits run =
+    subst (λ (r : List ℕ). Accepts t.trace more r left.trace) (sym same) (accepts setting t left more rest few fits.1
+    (subst (λ (u : ScriptState). Run setting u (map bytes_of more) rest left) none.1 others))
+accepts setting t left (insertion at line ∷ more) replies few fits run =
     let (first, mid, rest, is, others, cut) = run in
-    elim (inserts profile t mid at line first few fits.0 is) [
+    elim (inserts setting t mid at line first few fits.0 is) [
       | inl put ↦
           let fewer = put.fewer in
           let next : List Entry = insert t.trace (at - 1) fits.0.put in
@@ -174,7 +174,7 @@ accepts profile t left (insertion at line ∷ more) replies few fits run =
             fits.0.read,
             cut ∙ ap (λ (f : List ℕ). f ++ rest) put.says,
             subst (λ (u : List Entry). Accepts u more rest left.trace) put.stands
-                (accepts profile mid left more rest (omega (arith, long, fewer))
+                (accepts setting mid left more rest (omega (arith, long, fewer))
                 (subst (λ (n : ℕ). Fits n more) (sym long) fits.1) others),
           )
       | inr stops ↦ elim stops [
@@ -195,11 +195,11 @@ all_no_lf n (insertion at line ∷ more) fits =
     let small = fits.0.small in
     (insertion_no_lf at line (omega (arith, small)) fits.0.no_lf, all_no_lf (n + 1) more fits.1)
 
-text_accepted : (profile : Profile) (t left : ScriptState) (script : List ScriptLine) (replies : List ℕ)
-    → length t.trace ≤ 1000000 → Fits (length t.trace) script → Run profile t (lines (script_text script)) replies left
+text_accepted : (setting : Setting) (t left : ScriptState) (script : List ScriptLine) (replies : List ℕ)
+    → length t.trace ≤ 1000000 → Fits (length t.trace) script → Run setting t (lines (script_text script)) replies left
     → Accepts t.trace script replies left.trace
-text_accepted profile t left script replies few fits run = accepts profile t left script replies few fits
-    (subst (λ (l : List (List ℕ)). Run profile t l replies left)
+text_accepted setting t left script replies few fits run = accepts setting t left script replies few fits
+    (subst (λ (l : List (List ℕ)). Run setting t l replies left)
     (script_lines script (all_no_lf (length t.trace) script fits)) run)
 
 -- ---- after the lines that made descriptors
@@ -270,12 +270,12 @@ makers_fit t n (made.Unknown limit ∷ more) le few all = (
 )
 
 -- `edit` accepts each line of it, while the trace has room and memory is there
-pub makers_accepted : (profile : Profile) (t : List Entry) (left : ScriptState) (rows : List MakerRow) (replies : List ℕ)
+pub makers_accepted : (setting : Setting) (t : List Entry) (left : ScriptState) (rows : List MakerRow) (replies : List ℕ)
     → length t ≤ most_lines → All (IsSpelledRow t) rows
-    → Run profile (begun t) (lines (script_text (makers_script rows))) replies left
+    → Run setting (begun t) (lines (script_text (makers_script rows))) replies left
     → Accepts t (makers_script rows) replies left.trace
-makers_accepted profile t left rows replies few all run =
-    text_accepted profile (begun t) left (makers_script rows) replies few
+makers_accepted setting t left rows replies few all run =
+    text_accepted setting (begun t) left (makers_script rows) replies few
     (makers_fit t (length t) rows (omega arith) few all) run
 
 -- ---- of one process
@@ -447,28 +447,28 @@ begins_fits p k pid at = words_fit (begins_words p k)
     (omega (arith, decimal_short p (omega (arith, pid)), decimal_short k (omega (arith, at))))
 
 -- so too of no line at all
-pub nothing_accepted : (profile : Profile) (t : List Entry) (left : ScriptState) (replies : List ℕ) → length t ≤ most_lines
-    → Run profile (begun t) (lines (script_text [])) replies left → Accepts t [] replies left.trace
-nothing_accepted profile t left replies few run = text_accepted profile (begun t) left [] replies few tt run
+pub nothing_accepted : (setting : Setting) (t : List Entry) (left : ScriptState) (replies : List ℕ) → length t ≤ most_lines
+    → Run setting (begun t) (lines (script_text [])) replies left → Accepts t [] replies left.trace
+nothing_accepted setting t left replies few run = text_accepted setting (begun t) left [] replies few tt run
 
 -- and where the process begins
-pub beginning_accepted : (profile : Profile) (t : List Entry) (left : ScriptState) (p k : ℕ) (replies : List ℕ)
+pub beginning_accepted : (setting : Setting) (t : List Entry) (left : ScriptState) (p k : ℕ) (replies : List ℕ)
     → length t ≤ most_lines → k ≤ length t → IsPid p
-    → Run profile (begun t) (lines (script_text (beginning_script p k))) replies left
+    → Run setting (begun t) (lines (script_text (beginning_script p k))) replies left
     → Accepts t (beginning_script p k) replies left.trace
-beginning_accepted profile t left p k replies few high pid run =
+beginning_accepted setting t left p k replies few high pid run =
     let place = place_fits p k pid.1 (omega (arith, high, few)) in
     let begins = begins_fits p k pid.1 (omega (arith, high, few)) in
-    text_accepted profile (begun t) left (beginning_script p k) replies few (place, (begins, tt)) run
+    text_accepted setting (begun t) left (beginning_script p k) replies few (place, (begins, tt)) run
 
 -- so too of this
-pub process_accepted : (profile : Profile) (t : List Entry) (left : ScriptState) (k : ℕ) (limits : Limits) (replies : List ℕ)
+pub process_accepted : (setting : Setting) (t : List Entry) (left : ScriptState) (k : ℕ) (limits : Limits) (replies : List ℕ)
     → length t ≤ most_lines → 1 ≤ k → k ≤ length t → ProcessFacts t limits
-    → Run profile (begun t) (lines (script_text (limits_script t k limits))) replies left
+    → Run setting (begun t) (lines (script_text (limits_script t k limits))) replies left
     → Accepts t (limits_script t k limits) replies left.trace
-process_accepted profile t left k limits replies few low high facts run =
+process_accepted setting t left k limits replies few low high facts run =
     let rows : List Row = map line_row limits.held.items in
     let unknown : List Row = map line_row limits.unknown.items in
-    text_accepted profile (begun t) left (limits_script t k limits) replies few
+    text_accepted setting (begun t) left (limits_script t k limits) replies few
     (process_fits t limits.pid k rows unknown limits.entering few low high facts.few facts.pid facts.rows facts.unknown
     facts.stands) run

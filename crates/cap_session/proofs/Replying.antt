@@ -23,20 +23,20 @@ use Rattle.cap_session.proofs.Joins.{cut, last_same, pieces_same, replied_same, 
 pub script_begins : (start : Scripting) (w : SinkState) → start.held ≡ [] → TookScript start start w w []
 unfolding whole_lines last_piece
 script_begins start w begins = record {
-  profile = refl;
-  replied = replied_none start.profile start.state w;
+  setting = refl;
+  replied = replied_none start.setting start.state w;
   held = begins;
   failure = refl;
 }
 
 -- a piece was replied to
 pub script_on : (start s t : Scripting) (w0 w1 w2 : SinkState) (given piece : List ℕ) → TookScript start s w0 w1 given →
-    Replied s.profile s.state w1 w2 (due s.held piece) t.state → t.profile ≡ s.profile
+    Replied s.setting s.state w1 w2 (due s.held piece) t.state → t.setting ≡ s.setting
     → t.held ≡ take 1057 (last_piece s.held piece) → TookScript start t w0 w2 (given ++ piece)
 script_on start s t w0 w1 w2 given piece went replied stays held = record {
-  profile = stays ∙ went.profile;
+  setting = stays ∙ went.setting;
   replied = replied_same _ _ _ _ _ _ _ (pieces_same given piece)
-      (replied_on _ _ _ _ _ _ _ _ _ went.replied (rw (went.profile, went.held) at replied));
+      (replied_on _ _ _ _ _ _ _ _ _ went.replied (rw (went.setting, went.held) at replied));
   held =
       let again : take 1057 (take 1057 (last_piece [] given)) ≡ take 1057 (last_piece [] given) =
       take-take 1057 1057 (last_piece [] given) (omega arith) in
@@ -48,13 +48,13 @@ script_on start s t w0 w1 w2 given piece went replied stays held = record {
 -- the writer failed in the replies to a piece
 pub script_broken : (start s t : Scripting) (w0 w1 w2 : SinkState) (given piece : List ℕ)
     → TookScript start s w0 w1 given →
-    Broken s.profile s.state w1 w2 (due s.held piece) → t.profile ≡ s.profile
+    Broken s.setting s.state w1 w2 (due s.held piece) → t.setting ≡ s.setting
     → StoppedScript start t w0 w2 (given ++ piece) stops.WriteFault
 script_broken start s t w0 w1 w2 given piece went broke stays = record {
   is = refl;
-  profile = stays ∙ went.profile;
+  setting = stays ∙ went.setting;
   broken = broken_same _ _ _ _ _ _ (pieces_same given piece)
-      (broken_on _ _ _ _ _ _ _ _ went.replied (rw (went.profile, went.held) at broke));
+      (broken_on _ _ _ _ _ _ _ _ went.replied (rw (went.setting, went.held) at broke));
 }
 
 end_same : (g : List ℕ) → map cut (script_lines [] g ++ due_end (take 1057 (last_piece [] g))) ≡ map cut (lines g)
@@ -72,27 +72,27 @@ end_same g =
 
 -- the end was replied to
 pub script_ends : (start s t : Scripting) (w0 w1 w2 : SinkState) (given : List ℕ) → TookScript start s w0 w1 given →
-    Replied s.profile s.state w1 w2 (due_end s.held) t.state → t.profile ≡ s.profile
+    Replied s.setting s.state w1 w2 (due_end s.held) t.state → t.setting ≡ s.setting
     → EndedScript start t w0 w2 given (Ok tt)
 script_ends start s t w0 w1 w2 given went replied stays = record {
-  profile = stays ∙ went.profile;
+  setting = stays ∙ went.setting;
   replied = replied_same _ _ _ _ _ _ _ (end_same given)
-      (replied_on _ _ _ _ _ _ _ _ _ went.replied (rw (went.profile, went.held) at replied));
+      (replied_on _ _ _ _ _ _ _ _ _ went.replied (rw (went.setting, went.held) at replied));
   broken = tt;
 }
 
 -- the writer failed in that
 pub script_broken_at_end : (start s t : Scripting) (w0 w1 w2 : SinkState) (given : List ℕ)
     → TookScript start s w0 w1 given →
-    Broken s.profile s.state w1 w2 (due_end s.held) → t.profile ≡ s.profile
+    Broken s.setting s.state w1 w2 (due_end s.held) → t.setting ≡ s.setting
     → EndedScript start t w0 w2 given (Err stops.WriteFault)
 script_broken_at_end start s t w0 w1 w2 given went broke stays = record {
-  profile = stays ∙ went.profile;
+  setting = stays ∙ went.setting;
   replied = tt;
   broken = (
     refl,
     broken_same _ _ _ _ _ _ (end_same given)
-        (broken_on _ _ _ _ _ _ _ _ went.replied (rw (went.profile, went.held) at broke)),
+        (broken_on _ _ _ _ _ _ _ _ went.replied (rw (went.setting, went.held) at broke)),
   );
 }
 
@@ -103,23 +103,23 @@ module _ (start t : Scripting) (w0 w1 : SinkState) (turns : ℕ) (s0 s1 : Source
       Gives (TookScript start t w0 w1) (λ front piece stop. StoppedScript start t w0 w1 (front ++ piece) stop)
       (EndedScript start t w0 w1) turns s0 s1 result
 
-  pub all_stays : (result : Result (Unit {0}) StopReason) → GivesScript result → t.profile ≡ start.profile
+  pub all_stays : (result : Result (Unit {0}) StopReason) → GivesScript result → t.setting ≡ start.setting
   all_stays result gives = elim gives.answer [
-    | inl (inl f) ↦ f.taken.profile
-    | inl (inr u) ↦ u.taken.profile
-    | inr (inl s) ↦ s.why.profile
-    | inr (inr e) ↦ e.what.profile
+    | inl (inl f) ↦ f.taken.setting
+    | inl (inr u) ↦ u.taken.setting
+    | inr (inl s) ↦ s.why.setting
+    | inr (inr e) ↦ e.what.setting
   ]
 
   replies : (result : Result (Unit {0}) StopReason) (given : List ℕ) → Consumes s0.bytes s1.bytes given
       → s1.calls ≤ s0.calls + turns → s1.failures ≡ s0.failures + faults result
-      → RepliesUntil start.profile turns s0 s1 w0 w1 given start.state t.state result
-      → RepliesToAll start.profile turns s0 s1 w0 w1 start.state t.state result
+      → RepliesUntil start.setting turns s0 s1 w0 w1 given start.state t.state result
+      → RepliesToAll start.setting turns s0 s1 w0 w1 start.state t.state result
   replies result given read calls failures answer =
       record { given = given; read = read; calls = calls; failures = failures; answer = answer }
 
   pub all_replied : (result : Result (Unit {0}) StopReason) → GivesScript result
-      → RepliesToAll start.profile turns s0 s1 w0 w1 start.state t.state result
+      → RepliesToAll start.setting turns s0 s1 w0 w1 start.state t.state result
   all_replied (Ok u) gives = elim gives.answer [
     | inl (inl f) ↦ let no = f.is in absurd cc
     | inl (inr u) ↦ let no = u.is in absurd cc

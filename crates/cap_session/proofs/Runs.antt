@@ -13,7 +13,7 @@ use Rattle.cap_session.specs.Trace.{is_skipped}
 use Rattle.cap_session.specs.Scripts.{Commands, Answers, Run, Replied, Broken, long_piece, script_lines, tail, due}
 use Rattle.cap_session.specs.Scripts.{due_line, due_piece, Scripting}
 use Rattle.cap_session.specs.Replies.{ScriptState}
-use Rattle.cap_machine.specs.declared.cell.Profile.{Profile}
+use Rattle.cap_session.specs.declared.session.Setting.{Setting}
 use Rattle.cap_session.specs.Commands.{asked}
 use Rattle.cap_session.specs.Replies.{refused_text}
 use Rattle.cap_session.proofs.Cuts.{Cut, NoCut, cut_at, no_cut}
@@ -22,21 +22,21 @@ use Rattle.cap_session.proofs.Calls.{appends_more, appends_none}
 pub is_long : (line : List ℕ) → 1056 < length line → nat_lt 1056 (length line) ≡ true
 is_long line long = grind arith
 
-pub answers_long : (profile : Profile) (t : ScriptState) (line : List ℕ) → 1056 < length line
-    → Answers profile t line (refused_text 1) t
-answers_long profile t line long =
+pub answers_long : (setting : Setting) (t : ScriptState) (line : List ℕ) → 1056 < length line
+    → Answers setting t line (refused_text 1) t
+answers_long setting t line long =
     rw (is_long line long) (refl, refl)
 
-pub answers_command : (profile : Profile) (t : ScriptState) (line text : List ℕ) (u : ScriptState) → length line ≤ 1056
-    → is_skipped line ≡ false → Commands profile t (asked line) text u → Answers profile t line text u
-answers_command profile t line text u short command is =
+pub answers_command : (setting : Setting) (t : ScriptState) (line text : List ℕ) (u : ScriptState) → length line ≤ 1056
+    → is_skipped line ≡ false → Commands setting t (asked line) text u → Answers setting t line text u
+answers_command setting t line text u short command is =
     let no : nat_lt 1056 (length line) ≡ false = grind arith in
     rw (no, command) is
 
 -- the reply to a line that is too long rests on no byte past its 1,057th
-pub answers_cut : (profile : Profile) (t : ScriptState) (line text : List ℕ) (u : ScriptState)
-    → Answers profile t (take 1057 line) text u → Answers profile t line text u
-answers_cut profile t line text u is =
+pub answers_cut : (setting : Setting) (t : ScriptState) (line text : List ℕ) (u : ScriptState)
+    → Answers setting t (take 1057 line) text u → Answers setting t line text u
+answers_cut setting t line text u is =
     elim (cases_lt 1056 (length line)) [
       | inl long ↦
           let cut : 1056 < length (take 1057 line) = simp length-take (omega arith) in
@@ -44,17 +44,17 @@ answers_cut profile t line text u is =
       | inr short ↦ rw (take_all 1057 line (omega arith)) at is
     ]
 
-pub one_line : (profile : Profile) (t : ScriptState) (w0 w1 : SinkState) (line text : List ℕ) (u : ScriptState)
-    → Answers profile t line text u → Wrote w0 w1 text → Replied profile t w0 w1 (line ∷ []) u
-one_line profile t w0 w1 line text u is wrote = record {
+pub one_line : (setting : Setting) (t : ScriptState) (w0 w1 : SinkState) (line text : List ℕ) (u : ScriptState)
+    → Answers setting t line text u → Wrote w0 w1 text → Replied setting t w0 w1 (line ∷ []) u
+one_line setting t w0 w1 line text u is wrote = record {
   text = text;
   run = (text, u, [], is, (refl, refl), sym (append-nil text));
   wrote = wrote;
 }
 
-pub one_broken : (profile : Profile) (t : ScriptState) (w0 w1 : SinkState) (line text : List ℕ) (u : ScriptState)
-    → Answers profile t line text u → WrotePrefix w0 w1 text → Broken profile t w0 w1 (line ∷ [])
-one_broken profile t w0 w1 line text u is wrote = record {
+pub one_broken : (setting : Setting) (t : ScriptState) (w0 w1 : SinkState) (line text : List ℕ) (u : ScriptState)
+    → Answers setting t line text u → WrotePrefix w0 w1 text → Broken setting t w0 w1 (line ∷ [])
+one_broken setting t w0 w1 line text u is wrote = record {
   first = line ∷ [];
   others = [];
   cut = refl;
@@ -64,32 +64,32 @@ one_broken profile t w0 w1 line text u is wrote = record {
   wrote = wrote;
 }
 
-run_on : (profile : Profile) (t : ScriptState) (xs : List (List ℕ)) (text : List ℕ) (u : ScriptState) (ys : List (List ℕ))
+run_on : (setting : Setting) (t : ScriptState) (xs : List (List ℕ)) (text : List ℕ) (u : ScriptState) (ys : List (List ℕ))
     (more : List ℕ) (v : ScriptState)
-    → Run profile t xs text u → Run profile u ys more v → Run profile t (xs ++ ys) (text ++ more) v
-run_on profile t [] text u ys more v first second =
-    rw first.0 (subst (λ (x : ScriptState). Run profile x ys more v) first.1 second)
-run_on profile t (line ∷ xs) text u ys more v first second = (
+    → Run setting t xs text u → Run setting u ys more v → Run setting t (xs ++ ys) (text ++ more) v
+run_on setting t [] text u ys more v first second =
+    rw first.0 (subst (λ (x : ScriptState). Run setting x ys more v) first.1 second)
+run_on setting t (line ∷ xs) text u ys more v first second = (
   first.0,
   first.1,
   first.2 ++ more,
   first.3,
-  run_on profile first.1 xs first.2 u ys more v first.4 second,
+  run_on setting first.1 xs first.2 u ys more v first.4 second,
   ap (λ l. l ++ more) first.5 ∙ append_assoc first.0 first.2 more,
 )
 
-pub replied_none : (profile : Profile) (t : ScriptState) (w : SinkState) → Replied profile t w w [] t
-replied_none profile t w = record {
+pub replied_none : (setting : Setting) (t : ScriptState) (w : SinkState) → Replied setting t w w [] t
+replied_none setting t w = record {
   text = [];
   run = (refl, refl);
   wrote = record { taken = appends_none w.taken; failures = refl; room = refl };
 }
 
-pub replied_on : (profile : Profile) (t : ScriptState) (w0 w1 w2 : SinkState) (xs ys : List (List ℕ)) (u v : ScriptState)
-    → Replied profile t w0 w1 xs u → Replied profile u w1 w2 ys v → Replied profile t w0 w2 (xs ++ ys) v
-replied_on profile t w0 w1 w2 xs ys u v first second = record {
+pub replied_on : (setting : Setting) (t : ScriptState) (w0 w1 w2 : SinkState) (xs ys : List (List ℕ)) (u v : ScriptState)
+    → Replied setting t w0 w1 xs u → Replied setting u w1 w2 ys v → Replied setting t w0 w2 (xs ++ ys) v
+replied_on setting t w0 w1 w2 xs ys u v first second = record {
   text = first.text ++ second.text;
-  run = run_on profile t xs first.text u ys second.text v first.run second.run;
+  run = run_on setting t xs first.text u ys second.text v first.run second.run;
   wrote = record {
     taken = appends_more _ _ _ _ _ first.wrote.taken second.wrote.taken;
     failures = second.wrote.failures ∙ first.wrote.failures;
@@ -97,15 +97,15 @@ replied_on profile t w0 w1 w2 xs ys u v first second = record {
   };
 }
 
-pub broken_on : (profile : Profile) (t : ScriptState) (w0 w1 w2 : SinkState) (xs ys : List (List ℕ)) (u : ScriptState)
-    → Replied profile t w0 w1 xs u → Broken profile u w1 w2 ys → Broken profile t w0 w2 (xs ++ ys)
-broken_on profile t w0 w1 w2 xs ys u done broke = record {
+pub broken_on : (setting : Setting) (t : ScriptState) (w0 w1 w2 : SinkState) (xs ys : List (List ℕ)) (u : ScriptState)
+    → Replied setting t w0 w1 xs u → Broken setting u w1 w2 ys → Broken setting t w0 w2 (xs ++ ys)
+broken_on setting t w0 w1 w2 xs ys u done broke = record {
   first = xs ++ broke.first;
   others = broke.others;
   cut = ap (λ ls. xs ++ ls) broke.cut ∙ sym (append_assoc xs broke.first broke.others);
   text = done.text ++ broke.text;
   left = broke.left;
-  run = run_on profile t xs done.text u broke.first broke.text broke.left done.run broke.run;
+  run = run_on setting t xs done.text u broke.first broke.text broke.left done.run broke.run;
   wrote = record {
     front = done.text ++ broke.wrote.front;
     rest = broke.wrote.rest;
@@ -116,9 +116,9 @@ broken_on profile t w0 w1 w2 xs ys u done broke = record {
   };
 }
 
-pub broken_more : (profile : Profile) (t : ScriptState) (w0 w1 : SinkState) (xs ys : List (List ℕ))
-    → Broken profile t w0 w1 xs → Broken profile t w0 w1 (xs ++ ys)
-broken_more profile t w0 w1 xs ys broke = record {
+pub broken_more : (setting : Setting) (t : ScriptState) (w0 w1 : SinkState) (xs ys : List (List ℕ))
+    → Broken setting t w0 w1 xs → Broken setting t w0 w1 (xs ++ ys)
+broken_more setting t w0 w1 xs ys broke = record {
   first = broke.first;
   others = broke.others ++ ys;
   cut = ap (λ ls. ls ++ ys) broke.cut ∙ append_assoc broke.first broke.others ys;
@@ -153,8 +153,8 @@ due_rest held bytes found =
 pub record Scripted (start : Scripting) (w0 : SinkState) (piece : List ℕ) (s : Scripting) (w1 : SinkState)
     (rest : List ℕ) : Type 0 where
   pub lines : List (List ℕ)
-  pub profile : s.profile ≡ start.profile
-  pub replied : Replied start.profile start.state w0 w1 lines s.state
+  pub setting : s.setting ≡ start.setting
+  pub replied : Replied start.setting start.state w0 w1 lines s.state
   pub same : due start.held piece ≡ lines ++ due s.held rest
   pub last : take 1057 (last_piece s.held rest) ≡ take 1057 (last_piece start.held piece)
   pub room : w1.room ≡ w0.room
@@ -163,14 +163,14 @@ pub record Scripted (start : Scripting) (w0 : SinkState) (piece : List ℕ) (s :
 -- a line was replied to
 scripted_at : (start s t : Scripting) (w0 w1 w2 : SinkState) (piece rest : List ℕ) (k : ℕ)
     → Scripted start w0 piece s w1 rest →
-    IsFirstByte (is_byte 10) rest (Some k) → Replied s.profile s.state w1 w2 (due_line s.held (take k rest)) t.state
-    → t.profile ≡ s.profile → t.held ≡ [] → Scripted start w0 piece t w2 (drop (k + 1) rest)
+    IsFirstByte (is_byte 10) rest (Some k) → Replied s.setting s.state w1 w2 (due_line s.held (take k rest)) t.state
+    → t.setting ≡ s.setting → t.held ≡ [] → Scripted start w0 piece t w2 (drop (k + 1) rest)
 scripted_at start s t w0 w1 w2 piece rest k went found replied stays empty =
     let cut : Cut s.held rest k = cut_at s.held rest k found in
     record {
       lines = went.lines ++ due_line s.held (take k rest);
-      profile = stays ∙ went.profile;
-      replied = replied_on _ _ _ _ _ _ _ _ _ went.replied (rw went.profile at replied);
+      setting = stays ∙ went.setting;
+      replied = replied_on _ _ _ _ _ _ _ _ _ went.replied (rw went.setting at replied);
       same = went.same ∙ ap (λ ls. went.lines ++ ls) (due_cut s.held rest k found)
           ∙ sym (append_assoc went.lines (due_line s.held (take k rest)) (due [] (drop (k + 1) rest)))
           ∙ ap (λ h. (went.lines ++ due_line s.held (take k rest)) ++ due h (drop (k + 1) rest)) (sym empty);
@@ -181,38 +181,38 @@ scripted_at start s t w0 w1 w2 piece rest k went found replied stays empty =
 
 pub scripted_on : (start s t : Scripting) (w0 w1 w2 : SinkState) (piece rest line left : List ℕ)
     → Scripted start w0 piece s w1 rest → IsCut rest line left
-    → Replied s.profile s.state w1 w2 (due_line s.held line) t.state → t.profile ≡ s.profile → t.held ≡ []
+    → Replied s.setting s.state w1 w2 (due_line s.held line) t.state → t.setting ≡ s.setting → t.held ≡ []
     → Scripted start w0 piece t w2 left
 scripted_on start s t w0 w1 w2 piece rest line left went cut replied stays empty =
     subst (λ (l : List ℕ). Scripted start w0 piece t w2 l) (sym cut.leaves)
     (scripted_at start s t w0 w1 w2 piece rest (length line) went cut.first
-    (subst (λ (l : List ℕ). Replied s.profile s.state w1 w2 (due_line s.held l) t.state) cut.begins replied) stays empty)
+    (subst (λ (l : List ℕ). Replied s.setting s.state w1 w2 (due_line s.held l) t.state) cut.begins replied) stays empty)
 
 -- the writer failed in a reply
 pub scripted_broken : (start s : Scripting) (w0 w1 w2 : SinkState) (piece rest line left : List ℕ)
-    → Scripted start w0 piece s w1 rest → IsCut rest line left → Broken s.profile s.state w1 w2 (due_line s.held line)
-    → Broken start.profile start.state w0 w2 (due start.held piece)
+    → Scripted start w0 piece s w1 rest → IsCut rest line left → Broken s.setting s.state w1 w2 (due_line s.held line)
+    → Broken start.setting start.state w0 w2 (due start.held piece)
 scripted_broken start s w0 w1 w2 piece rest line left went cut broke =
     let k = length line in
-    let here : Broken s.profile s.state w1 w2 (due_line s.held (take k rest)) =
-    subst (λ (l : List ℕ). Broken s.profile s.state w1 w2 (due_line s.held l)) cut.begins broke in
+    let here : Broken s.setting s.state w1 w2 (due_line s.held (take k rest)) =
+    subst (λ (l : List ℕ). Broken s.setting s.state w1 w2 (due_line s.held l)) cut.begins broke in
     rw (went.same, due_cut s.held rest k cut.first) (broken_on _ _ _ _ _ _ _ _ went.replied
-    (broken_more _ _ _ _ _ (due [] (drop (k + 1) rest)) (rw went.profile at here)))
+    (broken_more _ _ _ _ _ (due [] (drop (k + 1) rest)) (rw went.setting at here)))
 
 -- the piece was worked through
 pub scripted_last : (start s t : Scripting) (w0 w1 w2 : SinkState) (piece rest : List ℕ)
     → Scripted start w0 piece s w1 rest →
-    IsFirstByte (is_byte 10) rest None → Replied s.profile s.state w1 w2 (due_piece s.held rest) t.state
-    → Replied start.profile start.state w0 w2 (due start.held piece) t.state
+    IsFirstByte (is_byte 10) rest None → Replied s.setting s.state w1 w2 (due_piece s.held rest) t.state
+    → Replied start.setting start.state w0 w2 (due start.held piece) t.state
 scripted_last start s t w0 w1 w2 piece rest went none replied =
-    rw (went.same, due_rest s.held rest none) (replied_on _ _ _ _ _ _ _ _ _ went.replied (rw went.profile at replied))
+    rw (went.same, due_rest s.held rest none) (replied_on _ _ _ _ _ _ _ _ _ went.replied (rw went.setting at replied))
 
 pub scripted_last_broken : (start s : Scripting) (w0 w1 w2 : SinkState) (piece rest : List ℕ)
     → Scripted start w0 piece s w1 rest →
-    IsFirstByte (is_byte 10) rest None → Broken s.profile s.state w1 w2 (due_piece s.held rest)
-    → Broken start.profile start.state w0 w2 (due start.held piece)
+    IsFirstByte (is_byte 10) rest None → Broken s.setting s.state w1 w2 (due_piece s.held rest)
+    → Broken start.setting start.state w0 w2 (due start.held piece)
 scripted_last_broken start s w0 w1 w2 piece rest went none broke =
-    rw (went.same, due_rest s.held rest none) (broken_on _ _ _ _ _ _ _ _ went.replied (rw went.profile at broke))
+    rw (went.same, due_rest s.held rest none) (broken_on _ _ _ _ _ _ _ _ went.replied (rw went.setting at broke))
 
 pub scripted_held : (start s t : Scripting) (w0 w1 : SinkState) (piece rest : List ℕ)
     → Scripted start w0 piece s w1 rest →
@@ -243,35 +243,35 @@ due_piece_short held bytes short =
     rw (is_short (held ++ bytes) within) (elim (nat_lt 1056 (length held)) as (λ v. cond {A = List (List ℕ)} v [] []
     ≡ []) [ true ↦ refl | false ↦ refl ])
 
-pub replied_cut : (profile : Profile) (t : ScriptState) (w0 w1 : SinkState) (line : List ℕ) (u : ScriptState)
-    → Replied profile t w0 w1 (take 1057 line ∷ []) u → Replied profile t w0 w1 (line ∷ []) u
-replied_cut profile t w0 w1 line u r = record {
+pub replied_cut : (setting : Setting) (t : ScriptState) (w0 w1 : SinkState) (line : List ℕ) (u : ScriptState)
+    → Replied setting t w0 w1 (take 1057 line ∷ []) u → Replied setting t w0 w1 (line ∷ []) u
+replied_cut setting t w0 w1 line u r = record {
   text = r.text;
-  run = (r.run.0, r.run.1, r.run.2, answers_cut profile t line r.run.0 r.run.1 r.run.3, r.run.4, r.run.5);
+  run = (r.run.0, r.run.1, r.run.2, answers_cut setting t line r.run.0 r.run.1 r.run.3, r.run.4, r.run.5);
   wrote = r.wrote;
 }
 
-broken_cut_from : (profile : Profile) (t : ScriptState) (w0 w1 : SinkState) (line : List ℕ)
+broken_cut_from : (setting : Setting) (t : ScriptState) (w0 w1 : SinkState) (line : List ℕ)
     (first others : List (List ℕ)) (text : List ℕ) (u : ScriptState) →
-    take 1057 line ∷ [] ≡ first ++ others → Run profile t first text u → WrotePrefix w0 w1 text
-    → Broken profile t w0 w1 (line ∷ [])
-broken_cut_from profile t w0 w1 line [] others text u cut run wrote =
+    take 1057 line ∷ [] ≡ first ++ others → Run setting t first text u → WrotePrefix w0 w1 text
+    → Broken setting t w0 w1 (line ∷ [])
+broken_cut_from setting t w0 w1 line [] others text u cut run wrote =
     record { first = []; others = line ∷ []; cut = refl; text = text; left = u; run = run; wrote = wrote }
-broken_cut_from profile t w0 w1 line (x ∷ []) others text u cut run wrote =
+broken_cut_from setting t w0 w1 line (x ∷ []) others text u cut run wrote =
     let same : x ≡ take 1057 line = cc in
-    let is = subst (λ (l : List ℕ). Answers profile t l run.0 run.1) same run.3 in
+    let is = subst (λ (l : List ℕ). Answers setting t l run.0 run.1) same run.3 in
     record {
       first = line ∷ [];
       others = [];
       cut = refl;
       text = text;
       left = u;
-      run = (run.0, run.1, run.2, answers_cut profile t line run.0 run.1 is, run.4, run.5);
+      run = (run.0, run.1, run.2, answers_cut setting t line run.0 run.1 is, run.4, run.5);
       wrote = wrote;
     }
-broken_cut_from profile t w0 w1 line (x ∷ y ∷ more) others text u cut run wrote = cc
+broken_cut_from setting t w0 w1 line (x ∷ y ∷ more) others text u cut run wrote = cc
 
-pub broken_cut : (profile : Profile) (t : ScriptState) (w0 w1 : SinkState) (line : List ℕ)
-    → Broken profile t w0 w1 (take 1057 line ∷ []) → Broken profile t w0 w1 (line ∷ [])
-broken_cut profile t w0 w1 line b =
-    broken_cut_from profile t w0 w1 line b.first b.others b.text b.left b.cut b.run b.wrote
+pub broken_cut : (setting : Setting) (t : ScriptState) (w0 w1 : SinkState) (line : List ℕ)
+    → Broken setting t w0 w1 (take 1057 line ∷ []) → Broken setting t w0 w1 (line ∷ [])
+broken_cut setting t w0 w1 line b =
+    broken_cut_from setting t w0 w1 line b.first b.others b.text b.left b.cut b.run b.wrote

@@ -3,7 +3,7 @@ use Rattle.std.proofs.Common.{◌≡◌, ℕ, List, [], ◌∷◌, ◌++◌, len
 use Rattle.std.proofs.Common.{subst, inl, inr, suc}
 use Rattle.std.specs.Prelude.{codes, nat_lt, Result, Ok, Err, ◌⊎◌}
 use Rattle.cap_trace.specs.Entry.{Entry}
-use Rattle.cap_machine.specs.declared.cell.Profile.{Profile}
+use Rattle.cap_session.specs.declared.session.Setting.{Setting}
 use Rattle.cap_session.specs.declared.edit.Edit.{Edit}
 use Rattle.cap_session.specs.declared.edit.Edit.TheVariants.{Insert, Delete, Replace}
 use Rattle.cap_session.specs.declared.refused.Refused.{Refused}
@@ -19,9 +19,9 @@ use Rattle.cap_session.specs.ScriptLaws.{EachReportIsOfItsTrace}
 use Rattle.cap_session.proofs.Scripted.{edit_replied, reported}
 
 -- what asks for no edit leaves the trace
-record Passes (profile : Profile) (ask : Asked) : Type 0 where
+record Passes (setting : Setting) (ask : Asked) : Type 0 where
   none : (edit : Edit) → ask ≡ edit_asked edit → ⊥
-  keeps : (t u : ScriptState) (text : List ℕ) → Commands profile t ask text u → u.trace ≡ t.trace
+  keeps : (t u : ScriptState) (text : List ℕ) → Commands setting t ask text u → u.trace ≡ t.trace
 
 same_trace : (t u : ScriptState) → u ≡ t → u.trace ≡ t.trace
 same_trace t u same = ap (λ (s : ScriptState). s.trace) same
@@ -43,37 +43,37 @@ edit_is (Insert k line) = refl
 edit_is (Delete k) = refl
 edit_is (Replace k line) = refl
 
-passes : (profile : Profile) (ask : Asked) → is_edit ask ≡ false
-    → ((t u : ScriptState) (text : List ℕ) → Commands profile t ask text u → u.trace ≡ t.trace) → Passes profile ask
-passes profile ask asks_none keeps =
+passes : (setting : Setting) (ask : Asked) → is_edit ask ≡ false
+    → ((t u : ScriptState) (text : List ℕ) → Commands setting t ask text u → u.trace ≡ t.trace) → Passes setting ask
+passes setting ask asks_none keeps =
     record { none = λ edit is. let made = sym asks_none ∙ ap is_edit is ∙ edit_is edit in cc; keeps = keeps }
 
-edit_or_not : (profile : Profile) (ask : Asked) → ((edit : Edit) × (ask ≡ edit_asked edit)) ⊎ Passes profile ask
+edit_or_not : (setting : Setting) (ask : Asked) → ((edit : Edit) × (ask ≡ edit_asked edit)) ⊎ Passes setting ask
 unfolding is_edit
-edit_or_not profile (insert_line k line) = inl (Insert k (record { ref_ptr = (0, 0); now = line }), refl)
-edit_or_not profile (replace_line k line) = inl (Replace k (record { ref_ptr = (0, 0); now = line }), refl)
-edit_or_not profile (delete_line k) = inl (Delete k, refl)
-edit_or_not profile (show_line k) = inr (passes profile (show_line k) refl (λ t u text is. elim is [
+edit_or_not setting (insert_line k line) = inl (Insert k (record { ref_ptr = (0, 0); now = line }), refl)
+edit_or_not setting (replace_line k line) = inl (Replace k (record { ref_ptr = (0, 0); now = line }), refl)
+edit_or_not setting (delete_line k) = inl (Delete k, refl)
+edit_or_not setting (show_line k) = inr (passes setting (show_line k) refl (λ t u text is. elim is [
   | inl seen ↦ shown_keeps t u line_feed text (shown t.trace k) seen
   | inr ran_out ↦ same_trace t u ran_out.3
 ]))
-edit_or_not profile count_lines = inr (passes profile count_lines refl (λ t u text is. elim is [
+edit_or_not setting count_lines = inr (passes setting count_lines refl (λ t u text is. elim is [
   | inl seen ↦ seen.trace
   | inr ran_out ↦ same_trace t u ran_out.3
 ]))
-edit_or_not profile report_all = inr (passes profile report_all refl (λ t u text is. elim is [
+edit_or_not setting report_all = inr (passes setting report_all refl (λ t u text is. elim is [
   | inl seen ↦ seen.trace
   | inr ran_out ↦ same_trace t u ran_out.3
 ]))
-edit_or_not profile tell_changes = inr (passes profile tell_changes refl (λ t u text is. elim is [
+edit_or_not setting tell_changes = inr (passes setting tell_changes refl (λ t u text is. elim is [
   | inl seen ↦ seen.trace
   | inr ran_out ↦ same_trace t u ran_out.3
 ]))
-edit_or_not profile (report_lines a b) = inr (passes profile (report_lines a b) refl (λ t u text is. elim is [
-  | inl seen ↦ shown_keeps t u [] text (ranged profile t.trace a b) seen
+edit_or_not setting (report_lines a b) = inr (passes setting (report_lines a b) refl (λ t u text is. elim is [
+  | inl seen ↦ shown_keeps t u [] text (ranged setting t.trace a b) seen
   | inr ran_out ↦ same_trace t u ran_out.3
 ]))
-edit_or_not profile unknown = inr (passes profile unknown refl (λ t u text is. elim is [
+edit_or_not setting unknown = inr (passes setting unknown refl (λ t u text is. elim is [
   | inl seen ↦ same_trace t u seen.1
   | inr ran_out ↦ same_trace t u ran_out.3
 ]))
@@ -89,20 +89,20 @@ record Stays (t : List Entry) (line : List ℕ) (u : List Entry) : Type 0 where
   none : AsksNone line
   same : u ≡ t
 
-line_does : (profile : Profile) (long skipped : Bool) (t u : ScriptState) (line text : List ℕ)
+line_does : (setting : Setting) (long skipped : Bool) (t u : ScriptState) (line text : List ℕ)
     → nat_lt 1056 (length line) ≡ long
-    → is_skipped line ≡ skipped → Answers profile t line text u
+    → is_skipped line ≡ skipped → Answers setting t line text u
     → Edits t.trace line u.trace ⊎ Stays t.trace line u.trace
-line_does profile true skipped t u line text long is_so is =
+line_does setting true skipped t u line text long is_so is =
     inr (record { none = λ edit asks. let no = sym long ∙ asks.0 in cc; same = same_trace t u (rw long at is).1 })
-line_does profile false true t u line text long is_so is =
+line_does setting false true t u line text long is_so is =
     inr (record { none = λ edit asks. let no = sym is_so ∙ asks.1 in cc; same = same_trace t u (rw (long, is_so) at is).1 })
-line_does profile false false t u line text long is_so is =
-    let does : Commands profile t (asked line) text u = rw (long, is_so) at is in
-    elim (edit_or_not profile (asked line)) [
+line_does setting false false t u line text long is_so is =
+    let does : Commands setting t (asked line) text u = rw (long, is_so) at is in
+    elim (edit_or_not setting (asked line)) [
       | inl edit ↦
           let done =
-          edit_replied profile t u text edit.0 (subst (λ (a : Asked). Commands profile t a text u) edit.1 does) in
+          edit_replied setting t u text edit.0 (subst (λ (a : Asked). Commands setting t a text u) edit.1 does) in
           inl (record { edit = edit.0; asks = (long, is_so, edit.1); ran_out = done.0; moves = done.1 })
       | inr passes ↦ inr (record { none = λ edit asks. passes.none edit asks.2; same = passes.keeps t u text does })
     ]
@@ -114,17 +114,17 @@ passed_over line lines [] none are = (none, are)
 passed_over line lines (edit ∷ edits) none are = inl (none, are)
 
 pub script_leaves_what_edits_give : ScriptLeavesWhatEditsGive
-script_leaves_what_edits_give profile t left [] text run = record {
+script_leaves_what_edits_give setting t left [] text run = record {
   edits = [];
   asked = tt;
   ran_out = [];
   each = refl;
   leaves = same_trace t left run.1;
 }
-script_leaves_what_edits_give profile t left (line ∷ lines) text run =
+script_leaves_what_edits_give setting t left (line ∷ lines) text run =
     let (first, mid, rest, is, more, cut) = run in
-    let others : LeavesEdits mid.trace lines left.trace = script_leaves_what_edits_give profile mid left lines rest more in
-    elim (line_does profile _ _ t mid line first refl refl is) [
+    let others : LeavesEdits mid.trace lines left.trace = script_leaves_what_edits_give setting mid left lines rest more in
+    elim (line_does setting _ _ t mid line first refl refl is) [
       | inl one ↦ record {
         edits = one.edit ∷ others.edits;
         asked = inr (one.asks, others.asked);
@@ -142,18 +142,18 @@ script_leaves_what_edits_give profile t left (line ∷ lines) text run =
     ]
 
 -- lines one after the other
-record Split (profile : Profile) (t : ScriptState) (xs ys : List (List ℕ)) (text : List ℕ)
+record Split (setting : Setting) (t : ScriptState) (xs ys : List (List ℕ)) (text : List ℕ)
     (u : ScriptState) : Type 0 where
   now : ScriptState
   first : List ℕ
   rest : List ℕ
-  before : Run profile t xs first now
-  others : Run profile now ys rest u
+  before : Run setting t xs first now
+  others : Run setting now ys rest u
   joins : text ≡ first ++ rest
 
-run_split : (profile : Profile) (t : ScriptState) (xs ys : List (List ℕ)) (text : List ℕ) (u : ScriptState)
-    → Run profile t (xs ++ ys) text u → Split profile t xs ys text u
-run_split profile t [] ys text u run = record {
+run_split : (setting : Setting) (t : ScriptState) (xs ys : List (List ℕ)) (text : List ℕ) (u : ScriptState)
+    → Run setting t (xs ++ ys) text u → Split setting t xs ys text u
+run_split setting t [] ys text u run = record {
   now = t;
   first = [];
   rest = text;
@@ -161,9 +161,9 @@ run_split profile t [] ys text u run = record {
   others = run;
   joins = refl;
 }
-run_split profile t (x ∷ xs) ys text u run =
+run_split setting t (x ∷ xs) ys text u run =
     let (first, mid, rest, is, more, cut) = run in
-    let s = run_split profile mid xs ys rest u more in
+    let s = run_split setting mid xs ys rest u more in
     record {
       now = s.now;
       first = first ++ s.first;
@@ -174,10 +174,10 @@ run_split profile t (x ∷ xs) ys text u run =
     }
 
 pub each_report_is_of_its_trace : EachReportIsOfItsTrace
-each_report_is_of_its_trace profile t left before others text run =
-    let s = run_split profile t before (codes "report" ∷ others) text left run in
+each_report_is_of_its_trace setting t left before others text run =
+    let s = run_split setting t before (codes "report" ∷ others) text left run in
     let (reply, mid, rest, is, more, cut) = s.others in
-    let done = reported profile s.now mid reply is in
+    let done = reported setting s.now mid reply is in
     record {
       now = s.now;
       later = mid;
@@ -185,7 +185,7 @@ each_report_is_of_its_trace profile t left before others text run =
       reply = reply;
       rest = rest;
       text_is = s.joins ∙ ap (λ l. s.first ++ l) cut ∙ sym (append_assoc s.first reply rest);
-      edits = script_leaves_what_edits_give profile t s.now before s.first s.before;
+      edits = script_leaves_what_edits_give setting t s.now before s.first s.before;
       lines = s.before;
       report = done.1;
       same = done.0;

@@ -4,7 +4,6 @@ use Rattle.std.specs.Prelude.{length, map, Option, None, Some, ℕ}
 use Rattle.std.specs.List.{list_any}
 use Rattle.std.specs.Cmp.Lexicographic.{pointwise}
 use Rattle.cap_trace.specs.Entry.{Entry}
-use Rattle.cap_machine.specs.declared.cell.Profile.{Profile}
 use Rattle.cap_machine.specs.declared.step.Step.{Step}
 use Rattle.cap_machine.specs.declared.verdict.Finding.{Finding}
 use Rattle.cap_machine.specs.declared.verdict.Finding.TheVariants.{Forbidden, ModeRefusal, Missing, Expanded, Closed}
@@ -12,9 +11,11 @@ use Rattle.cap_machine.specs.declared.verdict.Finding.TheVariants.{Refusal}
 use Rattle.cap_machine.specs.declared.verdict.Found.{Found}
 use Rattle.cap_machine.specs.Check.{check}
 use Rattle.cap_machine.specs.Report.{report_line, last_line}
-use Rattle.cap_machine.specs.State.{usual}
+use Rattle.cap_machine.specs.State.{State}
 use Rattle.cap_machine.specs.Steps.{steps}
 use Rattle.cap_session.specs.Origins.{Base}
+use Rattle.cap_session.specs.Settings.{state_before}
+use Rattle.cap_session.specs.declared.session.Setting.{Setting}
 
 -- ---- the findings of a line
 
@@ -81,18 +82,18 @@ gone_line trace one = codes "- " ++ report_line trace one
 abbrev pub new_line : List Step → Found → List ℕ
 new_line trace one = codes "+ " ++ report_line trace one
 
--- what went from one trace, what came in the other, and how many findings that has
-abbrev pub changed : List (Option ℕ) → List Step → List Step → List ℕ
-changed origins before now =
-    flat_map (gone_line before) (went origins (check usual before) (check usual now))
-    ++ (flat_map (new_line now) (came origins (check usual before) (check usual now))
-    ++ last_line (length (check usual now)))
+-- what went from one trace, what came in the other, and how many findings that has, both from one start
+abbrev pub changed : State → List (Option ℕ) → List Step → List Step → List ℕ
+changed s origins before now =
+    flat_map (gone_line before) (went origins (check s before) (check s now))
+    ++ (flat_map (new_line now) (came origins (check s before) (check s now)) ++ last_line (length (check s now)))
 
 -- all findings of a trace
-abbrev pub all_new : List Step → List ℕ
-all_new now = codes "all\n" ++ (flat_map (new_line now) (check usual now) ++ last_line (length (check usual now)))
+abbrev pub all_new : State → List Step → List ℕ
+all_new s now = codes "all\n" ++ (flat_map (new_line now) (check s now) ++ last_line (length (check s now)))
 
 -- what changed in a trace since the report that is kept, and all findings where none is
-abbrev pub changes : Profile → Option Base → List Entry → List ℕ
-changes profile None trace = all_new (steps profile trace)
-changes profile (Some base) trace = changed base.origins (steps profile base.trace) (steps profile trace)
+abbrev pub changes : Setting → Option Base → List Entry → List ℕ
+changes setting None trace = all_new (state_before setting) (steps setting.profile trace)
+changes setting (Some base) trace =
+    changed (state_before setting) base.origins (steps setting.profile base.trace) (steps setting.profile trace)

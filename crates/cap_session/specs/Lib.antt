@@ -24,6 +24,7 @@ pub mod Replies
 pub mod ScriptLaws
 pub mod Scripts
 pub mod Session
+pub mod Settings
 pub mod StartTexts
 pub mod StartWords
 pub mod Streams

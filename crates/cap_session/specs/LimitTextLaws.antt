@@ -35,6 +35,7 @@ use Rattle.cap_session.specs.Replies.{ScriptState, begun}
 use Rattle.cap_session.specs.Scripts.{Run}
 use Rattle.cap_session.specs.StartTexts.{described_by}
 use Rattle.cap_session.specs.Trace.{trace}
+use Rattle.cap_session.specs.declared.session.Setting.{Setting}
 
 -- ---- what was read
 
@@ -66,20 +67,20 @@ StartsAreSpelled = (text : List ℕ) (start : List Added) → described_by text 
 
 -- Each line of the script is accepted, up to the first for which the trace is full or memory ran out. Where none is
 -- refused, the trace that is left is the old one with the lines of the script in it.
-abbrev pub EditAccepts : Profile → List Entry → List ScriptLine → Type 0
-EditAccepts profile t script = (left : ScriptState) (replies : List ℕ)
-    → Run profile (begun t) (lines (script_text script)) replies left
+abbrev pub EditAccepts : List Entry → List ScriptLine → Type 0
+EditAccepts t script = (setting : Setting) (left : ScriptState) (replies : List ℕ)
+    → Run setting (begun t) (lines (script_text script)) replies left
     → Accepts t script replies left.trace × (replies ≡ all_ok t script → left.trace ≡ with_script t script)
 
 abbrev pub LimitsBeforeAreAccepted : Type 0
 LimitsBeforeAreAccepted = (profile : Profile) (start : List Added) (t : List Entry) (k : ℕ) (limits : LimitsBefore)
     → IsSpelledStart start → IsTrace t → AreLimitsBefore profile start t k limits
-    → EditAccepts profile t (before_script t k limits)
+    → EditAccepts t (before_script t k limits)
 
 abbrev pub MakerLimitsAreAccepted : Type 0
 MakerLimitsAreAccepted = (profile : Profile) (start : List Added) (t : List Entry) (rows : List MakerRow)
     → IsSpelledStart start → IsTrace t → AreMakerRows (start_state start) 1 (steps profile t) rows
-    → EditAccepts profile t (makers_script rows)
+    → EditAccepts t (makers_script rows)
 
 -- ---- before a line
 

@@ -1,16 +1,15 @@
--- The reply to a command in a profile, and the trace that it leaves.
+-- The reply to a command, by a profile and a start, and the trace that it leaves.
 use Rattle.std.specs.Prelude.{ℕ, ◌-◌, ◌&&◌, nat_le, Bool, true, false, List, [], ◌++◌, length, flat_map, filter, codes}
 use Rattle.std.specs.Prelude.{decimal, if◌then◌else◌, Result, Ok, Err, Option, None, Some}
 use Rattle.std.specs.List.{slice_get}
 use Rattle.cap_trace.specs.Entry.{Entry}
 use Rattle.cap_trace.specs.Spelling.{canon}
-use Rattle.cap_machine.specs.declared.cell.Profile.{Profile}
 use Rattle.cap_machine.specs.declared.step.Step.{Step}
 use Rattle.cap_machine.specs.declared.verdict.Found.{Found}
 use Rattle.cap_machine.specs.Steps.{steps}
-use Rattle.cap_machine.specs.State.{State, usual}
+use Rattle.cap_machine.specs.State.{State}
 use Rattle.cap_machine.specs.Check.{check}
-use Rattle.cap_machine.specs.Report.{report_line, last_line, report}
+use Rattle.cap_machine.specs.Report.{report_line, last_line}
 use Rattle.cap_session.specs.Limits.{most_lines}
 use Rattle.cap_session.specs.Edits.{is_position, inserted, deleted, replaced}
 use Rattle.cap_session.specs.Refused.{code_of}
@@ -18,8 +17,10 @@ use Rattle.cap_session.specs.Commands.{Asked, insert_line, replace_line, delete_
 use Rattle.cap_session.specs.Commands.{report_all, report_lines, tell_changes, unknown}
 use Rattle.cap_session.specs.Changes.{changes}
 use Rattle.cap_session.specs.Origins.{Base, base_of, made_new, moved, put_in, taken_out}
+use Rattle.cap_session.specs.Settings.{report_by, state_before}
 use Rattle.cap_session.specs.declared.refused.Refused.{Refused}
 use Rattle.cap_session.specs.declared.refused.Refused.TheVariants.{Position}
+use Rattle.cap_session.specs.declared.session.Setting.{Setting}
 
 -- ---- what is asked without a change
 
@@ -49,9 +50,9 @@ range_report s trace first last =
 abbrev pub is_range : ℕ → ℕ → ℕ → Bool
 is_range count first last = nat_le 1 first && nat_le first last && nat_le last count
 
-abbrev pub ranged : Profile → List Entry → ℕ → ℕ → Result (List ℕ) Refused
-ranged profile trace first last = if is_range (length trace) first last
-    then Ok (range_report usual (steps profile trace) first last) else Err Position
+abbrev pub ranged : Setting → List Entry → ℕ → ℕ → Result (List ℕ) Refused
+ranged setting trace first last = if is_range (length trace) first last
+    then Ok (range_report (state_before setting) (steps setting.profile trace) first last) else Err Position
 
 -- ---- commands
 
@@ -98,16 +99,16 @@ told_done trace text = Ok (record { text = text; trace = trace; keeping = become
 
 -- what a command does, or the number in the reply where it isn't done; a script's session holds as many lines as a trace
 -- may have
-abbrev pub commanded : Profile → ScriptState → Asked → Result Done ℕ
-commanded profile t (insert_line k line) = edit_done (put_in k) t.base (inserted most_lines t.trace k line)
-commanded profile t (replace_line k line) = edit_done (made_new k) t.base (replaced t.trace k line)
-commanded profile t (delete_line k) = edit_done (taken_out k) t.base (deleted t.trace k)
-commanded profile t (show_line k) = shown_done t.trace line_feed (shown t.trace k)
-commanded profile t count_lines = shown_done t.trace line_feed (Ok (decimal (length t.trace)))
-commanded profile t report_all = told_done t.trace (report usual (steps profile t.trace))
-commanded profile t (report_lines a b) = shown_done t.trace [] (ranged profile t.trace a b)
-commanded profile t tell_changes = told_done t.trace (changes profile t.base t.trace)
-commanded profile t unknown = Err 10
+abbrev pub commanded : Setting → ScriptState → Asked → Result Done ℕ
+commanded setting t (insert_line k line) = edit_done (put_in k) t.base (inserted most_lines t.trace k line)
+commanded setting t (replace_line k line) = edit_done (made_new k) t.base (replaced t.trace k line)
+commanded setting t (delete_line k) = edit_done (taken_out k) t.base (deleted t.trace k)
+commanded setting t (show_line k) = shown_done t.trace line_feed (shown t.trace k)
+commanded setting t count_lines = shown_done t.trace line_feed (Ok (decimal (length t.trace)))
+commanded setting t report_all = told_done t.trace (report_by setting t.trace)
+commanded setting t (report_lines a b) = shown_done t.trace [] (ranged setting t.trace a b)
+commanded setting t tell_changes = told_done t.trace (changes setting t.base t.trace)
+commanded setting t unknown = Err 10
 
 -- Memory may run out for every command that isn't refused, but for `count`.
 abbrev pub may_run_out : Asked → Bool

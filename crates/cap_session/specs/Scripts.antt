@@ -1,7 +1,7 @@
--- The replies to a script in a profile.
+-- The replies to a script in a setting.
 use Rattle.std.specs.Prelude.{◌≡◌, ℕ, nat_lt, ◌⊎◌, List, [], ◌∷◌, ◌++◌, length, if◌then◌else◌, MatchBool, IsTrue, IsOk}
 use Rattle.std.specs.Prelude.{Result, Ok, Err, Option}
-use Rattle.cap_machine.specs.declared.cell.Profile.{Profile}
+use Rattle.cap_session.specs.declared.session.Setting.{Setting}
 use Rattle.cap_session.specs.Devices.{SinkState}
 use Rattle.cap_session.specs.Limits.{longest_script_line}
 use Rattle.cap_session.specs.Lines.{whole_lines, last_piece, line_if_any}
@@ -28,25 +28,25 @@ RepliesTo t (Ok done) text u = Does t done text u
 RepliesTo t (Err code) text u = (text ≡ refused_text code) × (u ≡ t)
 
 -- Memory ran out for a command that isn't refused, and all was left as it was.
-abbrev pub RunsOut : Profile → ScriptState → Asked → List ℕ → ScriptState → Type 0
-RunsOut profile t ask text u = IsTrue (may_run_out ask) × IsOk (commanded profile t ask) × (text ≡ refused_text 9) × (u ≡ t)
+abbrev pub RunsOut : Setting → ScriptState → Asked → List ℕ → ScriptState → Type 0
+RunsOut setting t ask text u = IsTrue (may_run_out ask) × IsOk (commanded setting t ask) × (text ≡ refused_text 9) × (u ≡ t)
 
-abbrev pub Commands : Profile → ScriptState → Asked → List ℕ → ScriptState → Type 0
-Commands profile t ask text u = RepliesTo t (commanded profile t ask) text u ⊎ RunsOut profile t ask text u
+abbrev pub Commands : Setting → ScriptState → Asked → List ℕ → ScriptState → Type 0
+Commands setting t ask text u = RepliesTo t (commanded setting t ask) text u ⊎ RunsOut setting t ask text u
 
 -- This may be written of the line, and t becomes u. A line that is too long is refused with 1, whatever it
 -- holds; an empty line and a comment are skipped.
-abbrev pub Answers : Profile → ScriptState → List ℕ → List ℕ → ScriptState → Type 0
-Answers profile t line text u =
+abbrev pub Answers : Setting → ScriptState → List ℕ → List ℕ → ScriptState → Type 0
+Answers setting t line text u =
     MatchBool (nat_lt longest_script_line (length line)) ((text ≡ refused_text 1) × (u ≡ t))
-    (MatchBool (is_skipped line) ((text ≡ []) × (u ≡ t)) (Commands profile t (asked line) text u))
+    (MatchBool (is_skipped line) ((text ≡ []) × (u ≡ t)) (Commands setting t (asked line) text u))
 
 -- These may be the replies to the lines, one after the other.
-abbrev pub Run : Profile → ScriptState → List (List ℕ) → List ℕ → ScriptState → Type 0
-Run profile t [] text u = (text ≡ []) × (u ≡ t)
-Run profile t (line ∷ more) text u =
-    (first : List ℕ) × (mid : ScriptState) × (rest : List ℕ) × Answers profile t line first mid
-    × Run profile mid more rest u × (text ≡ first ++ rest)
+abbrev pub Run : Setting → ScriptState → List (List ℕ) → List ℕ → ScriptState → Type 0
+Run setting t [] text u = (text ≡ []) × (u ≡ t)
+Run setting t (line ∷ more) text u =
+    (first : List ℕ) × (mid : ScriptState) × (rest : List ℕ) × Answers setting t line first mid
+    × Run setting mid more rest u × (text ≡ first ++ rest)
 
 -- a last piece that is too long is replied to before its LF
 abbrev pub long_piece : List ℕ → List (List ℕ)
@@ -58,28 +58,28 @@ abbrev pub script_lines : List ℕ → List ℕ → List (List ℕ)
 script_lines held bytes = whole_lines held bytes ++ long_piece (last_piece held bytes)
 
 -- These lines were replied to.
-pub record Replied (profile : Profile) (t : ScriptState) (w0 w1 : SinkState) (lines : List (List ℕ))
+pub record Replied (setting : Setting) (t : ScriptState) (w0 w1 : SinkState) (lines : List (List ℕ))
     (u : ScriptState) : Type 0 where
   pub text : List ℕ
-  pub run : Run profile t lines text u
+  pub run : Run setting t lines text u
   pub wrote : Wrote w0 w1 text
 
 -- The writer failed in the replies to the first of these lines.
-pub record Broken (profile : Profile) (t : ScriptState) (w0 w1 : SinkState) (lines : List (List ℕ)) : Type 0 where
+pub record Broken (setting : Setting) (t : ScriptState) (w0 w1 : SinkState) (lines : List (List ℕ)) : Type 0 where
   pub first : List (List ℕ)
   pub others : List (List ℕ)
   pub cut : lines ≡ first ++ others
   pub text : List ℕ
   pub left : ScriptState
-  pub run : Run profile t first text left
+  pub run : Run setting t first text left
   pub wrote : WrotePrefix w0 w1 text
 
 -- ---- while a script comes
 
--- What is known: the profile, what the script works on, and the beginning of the next line, no more of it than `most_held`
+-- What is known: the setting, what the script works on, and the beginning of the next line, no more of it than `most_held`
 -- bytes are kept.
 pub record Scripting : Type 0 where
-  pub profile : Profile
+  pub setting : Setting
   pub state : ScriptState
   pub held : List ℕ
 

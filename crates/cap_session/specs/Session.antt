@@ -6,12 +6,13 @@ use Rattle.cap_trace.specs.Entry.{Entry}
 use Rattle.cap_machine.specs.declared.cell.Profile.{Profile}
 use Rattle.cap_machine.specs.declared.verdict.Found.{Found}
 use Rattle.cap_machine.specs.Check.{check}
-use Rattle.cap_machine.specs.State.{usual}
 use Rattle.cap_machine.specs.Steps.{steps}
 use Rattle.cap_machine.specs.declared.step.Step.{Step}
 use Rattle.cap_session.specs.Limits.{most_lines}
 use Rattle.cap_session.specs.Origins.{Base}
+use Rattle.cap_session.specs.Settings.{state_before}
 use Rattle.cap_session.specs.declared.last_report.LastReport.{LastReport}
+use Rattle.cap_session.specs.declared.session.Setting.{Setting}
 use Rattle.cap_session.specs.declared.edit.Edit.{Edit}
 use Rattle.cap_session.specs.declared.edit.Edit.TheVariants.{Insert, Delete, Replace}
 use Rattle.cap_session.specs.declared.refused.Refused.{Refused}
@@ -20,8 +21,8 @@ use Rattle.cap_session.specs.declared.refused.Refused.TheVariants.{Position, Ful
 
 -- What a contract sees of a session.
 pub record SessionState : Type 0 where
-  -- the profile in which its lines are checked
-  pub profile : Profile
+  -- by what its lines are checked
+  pub setting : Setting
   -- its lines
   pub trace : List Entry
   -- how many it may have
@@ -51,10 +52,10 @@ StoodThere before None step = ⊤
 StoodThere before (Some position) step = slice_get before (position - 1) ≡ Some step
 
 -- A report that is kept tells what was found in its trace, and each step of today that stood in that is the same.
-pub record IsLast (profile : Profile) (now : List Step) (last : LastReport) : Type 0 where
-  pub in_profile : IsIn profile last.tree
+pub record IsLast (setting : Setting) (now : List Step) (last : LastReport) : Type 0 where
+  pub in_profile : IsIn setting.profile last.tree
   pub few : length last.tree ≤ most_lines
-  pub found : last.found.items ≡ check usual last.tree
+  pub found : last.found.items ≡ check (state_before setting) last.tree
   pub stood : AllZip (StoodThere last.tree) last.origins now
 
 -- what callers see of it
@@ -63,11 +64,11 @@ base_kept None = None
 base_kept (Some last) = Some (record { trace = lines_of last.tree; origins = last.origins })
 
 -- What always holds of a session.
-pub record IsSession (profile : Profile) (limit : ℕ) (shared : List Step) (last : Option LastReport) : Type 0 where
-  pub in_profile : IsIn profile shared
+pub record IsSession (setting : Setting) (limit : ℕ) (shared : List Step) (last : Option LastReport) : Type 0 where
+  pub in_profile : IsIn setting.profile shared
   pub few : length shared ≤ limit
   pub most : limit ≤ most_lines
-  pub report : IfSome last (IsLast profile shared)
+  pub report : IfSome last (IsLast setting shared)
 
 -- What always holds of steps that a session will take over.
 pub record IsKept (profile : Profile) (limit : ℕ) (shared : List Step) : Type 0 where

@@ -19,8 +19,8 @@ use cap_trace::LineRef;
 use std::alloc::Global;
 
 impl TraceSink for Checker {
-    ghost keeps = { λ checker setting entries.
-        IsAsked checker setting.question setting.profile setting.start entries };
+    ghost keeps = { λ checker inquiry entries.
+        IsAsked checker inquiry.question inquiry.profile inquiry.start entries };
 
     ghost lines_of = { lines_of };
 

@@ -1,8 +1,10 @@
-//! [`edit_stream_as`]: a trace is loaded, and then a script of commands on it is replied to, line by line.
+//! [`edit_stream_from_as`]: a start is read, a trace is loaded, and then a script of commands on it is replied to, line by
+//! line.
 ghost use Rattle.std.specs.Prelude.{◌≡◌, ◌^◌, ◌<◌, ◌≤◌, [], length};
 ghost use Rattle.cap_machine.specs.declared.cell.Profile.TheVariants.{One};
-ghost use Rattle.cap_session.specs.EditStreams.{EditStreams, Replies, IsOutcome};
+ghost use Rattle.cap_session.specs.EditStreams.{EditStreams, EditStartStreams, Replies, IsOutcome};
 ghost use Rattle.cap_session.specs.Limits.{longest_piece};
+ghost use Rattle.cap_session.specs.Settings.{usually};
 
 use crate::devices::{Sink, Source};
 use crate::entries::read_trace;
@@ -14,8 +16,9 @@ use crate::refused::Input;
 use crate::replies::reply_all;
 use crate::script::Script;
 use crate::session::Session;
+use crate::start_text::read_start;
 use crate::write::write_stop;
-use cap_machine::Profile;
+use cap_machine::{Profile, Start};
 use std::alloc::Global;
 
 /// Replies to a script with room for a piece, and ends with the outcome of the trace as it then is.
@@ -32,7 +35,7 @@ fn edit_loaded<S: Source, W: Sink>(
     requires begins { script.held ≡ [] }
     requires some { 0 < length piece.old }
     requires most { length piece.old ≤ longest_piece }
-    ensures { Replies script.profile turns (S.state reader.old) (S.state reader.new) (W.state writer.old)
+    ensures { Replies script.setting turns (S.state reader.old) (S.state reader.new) (W.state writer.old)
         (W.state writer.new) script.state result }
 {
     match reply_all(turns, reader, writer, &mut script, piece) {
@@ -43,7 +46,7 @@ fn edit_loaded<S: Source, W: Sink>(
 
 /// The outcome of the trace of a session.
 fn outcome_of(session: &Session) -> Outcome
-    ensures { IsOutcome session.now.profile session.now.trace result }
+    ensures { IsOutcome session.now.setting session.now.trace result }
 {
     match session.is_clean() {
         Ok(true) => Outcome::Clean,
@@ -52,7 +55,76 @@ fn outcome_of(session: &Session) -> Outcome
     }
 }
 
-/// Takes a trace over in a profile, and replies to a script of commands on it, line by line.
+/// Takes a trace over in a profile and from a start, and replies to a script of commands on it.
+fn edit_from<T: Source, S: Source, W: Sink>(
+    alloc: Global,
+    profile: Profile,
+    turns: u64,
+    start: Start,
+    trace: &mut T,
+    script: &mut S,
+    writer: &mut W,
+) -> Outcome
+    requires turns { turns ≤ 2 ^ 32 }
+    requires trace_calls { turns ≤ (T.state trace.old).room }
+    requires script_calls { turns ≤ (S.state script.old).room }
+    requires failure { 1 ≤ (W.state writer.old).room }
+    ensures { EditStreams (record { profile = profile; start = start }) turns (T.state trace.old) (T.state trace.new)
+        (S.state script.old) (S.state script.new) (W.state writer.old) (W.state writer.new) result }
+{
+    let Ok(mut piece) = vec![in alloc; 0u8; LONGEST_PIECE] else {
+        return Outcome::Memory;
+    };
+    let Ok(held) = LineBuffer::new(alloc) else {
+        return Outcome::Memory;
+    };
+    let empty = Loading::new(alloc, profile);
+    match read_trace(alloc, turns, trace, empty) {
+        Ok(loading) => {
+            let Ok(session) = loading.session(start) else {
+                return Outcome::Memory;
+            };
+            let loaded = Script { session, held };
+            edit_loaded(turns, script, writer, loaded, piece.as_mut_slice())
+        }
+        Err(stop) => write_stop(Input::Trace, stop, writer),
+    }
+}
+
+/// Reads a start text, takes a trace over in a profile, and replies to a script of commands on it, line by line: what is
+/// found, and what is said of it, is from this start. An empty start text is the usual start.
+///
+/// The start and the trace are read as [`check_stream_from_as`](crate::check_stream_from_as) reads them, the start first;
+/// `turns` bounds the calls of each reader by itself. Where the start isn't taken, the outcome is as there, and neither the
+/// trace nor the script is read. Else the trace and the script are, and the outcome is that of [`edit_stream_as`], from
+/// this start.
+///
+/// `turns` must be at most 2^32, the readers must be able to count so many calls, and the writer must be able to count a
+/// failure.
+pub fn edit_stream_from_as<Z: Source, T: Source, S: Source, W: Sink>(
+    alloc: Global,
+    profile: Profile,
+    turns: u64,
+    start: &mut Z,
+    trace: &mut T,
+    script: &mut S,
+    writer: &mut W,
+) -> Outcome
+    requires turns { turns ≤ 2 ^ 32 }
+    requires start_calls { turns ≤ (Z.state start.old).room }
+    requires trace_calls { turns ≤ (T.state trace.old).room }
+    requires script_calls { turns ≤ (S.state script.old).room }
+    requires failure { 1 ≤ (W.state writer.old).room }
+    ensures { EditStartStreams profile turns (Z.state start.old) (Z.state start.new) (T.state trace.old) (T.state trace.new)
+        (S.state script.old) (S.state script.new) (W.state writer.old) (W.state writer.new) result }
+{
+    match read_start(alloc, turns, start) {
+        Ok(known) => edit_from(alloc, profile, turns, known, trace, script, writer),
+        Err(stop) => write_stop(Input::Start, stop, writer),
+    }
+}
+
+/// Takes a trace over in a profile, from the usual start, and replies to a script of commands on it, line by line.
 ///
 /// The trace is read as `check_stream` reads it. Where it isn't taken over, the outcome is as there: `Refused`,
 /// `Memory`, `ReadFault`, `TooLong`, or `WriteFault` of the refusal, and the script isn't read.
@@ -86,26 +158,11 @@ pub fn edit_stream_as<T: Source, S: Source, W: Sink>(
     requires trace_calls { turns ≤ (T.state trace.old).room }
     requires script_calls { turns ≤ (S.state script.old).room }
     requires failure { 1 ≤ (W.state writer.old).room }
-    ensures { EditStreams profile turns (T.state trace.old) (T.state trace.new) (S.state script.old)
+    ensures { EditStreams (usually profile) turns (T.state trace.old) (T.state trace.new) (S.state script.old)
         (S.state script.new) (W.state writer.old) (W.state writer.new) result }
 {
-    let Ok(mut piece) = vec![in alloc; 0u8; LONGEST_PIECE] else {
-        return Outcome::Memory;
-    };
-    let Ok(held) = LineBuffer::new(alloc) else {
-        return Outcome::Memory;
-    };
-    let empty = Loading::new(alloc, profile);
-    match read_trace(alloc, turns, trace, empty) {
-        Ok(loading) => {
-            let Ok(session) = loading.session() else {
-                return Outcome::Memory;
-            };
-            let loaded = Script { session, held };
-            edit_loaded(turns, script, writer, loaded, piece.as_mut_slice())
-        }
-        Err(stop) => write_stop(Input::Trace, stop, writer),
-    }
+    let start = Start::unknown(alloc);
+    edit_from(alloc, profile, turns, start, trace, script, writer)
 }
 
 /// Takes a trace over in profile 1, and replies to a script of commands on it, as [`edit_stream_as`] does.
@@ -120,8 +177,8 @@ pub fn edit_stream<T: Source, S: Source, W: Sink>(
     requires trace_calls { turns ≤ (T.state trace.old).room }
     requires script_calls { turns ≤ (S.state script.old).room }
     requires failure { 1 ≤ (W.state writer.old).room }
-    ensures { EditStreams One turns (T.state trace.old) (T.state trace.new) (S.state script.old) (S.state script.new)
-        (W.state writer.old) (W.state writer.new) result }
+    ensures { EditStreams (usually One) turns (T.state trace.old) (T.state trace.new) (S.state script.old)
+        (S.state script.new) (W.state writer.old) (W.state writer.new) result }
 {
     edit_stream_as(alloc, Profile::One, turns, trace, script, writer)
 }

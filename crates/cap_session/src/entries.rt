@@ -6,7 +6,7 @@ ghost use Rattle.cap_trace.specs.Entry.{Entry};
 ghost use Rattle.cap_trace.specs.Reading.{line_of};
 ghost use Rattle.cap_session.specs.Limits.{most_lines};
 ghost use Rattle.cap_session.specs.Trace.{is_skipped, trace, trace_so_far};
-ghost use Rattle.cap_session.specs.Code.Traced.{Setting, Traced, one_more, next_traced, Follows, Holds};
+ghost use Rattle.cap_session.specs.Code.Traced.{Inquiry, Traced, one_more, next_traced, Follows, Holds};
 ghost use Rattle.cap_session.specs.Reads.{Reads};
 ghost use Rattle.cap_session.specs.Code.Feeds.{TakesLine};
 
@@ -32,7 +32,7 @@ pub fn is_skipped(line: &[u8]) -> bool
 /// What keeps the lines of a trace.
 pub trait TraceSink: Drop {
     /// It keeps these lines of a trace that is checked so.
-    ghost keeps: { Self → Setting → List Entry → Type 0 };
+    ghost keeps: { Self → Inquiry → List Entry → Type 0 };
 
     /// How many lines it keeps.
     ghost lines_of: { Self → ℕ };
@@ -40,13 +40,13 @@ pub trait TraceSink: Drop {
     /// How many lines it keeps.
     fn count(&self) -> usize
         ensures count { result ≡ lines_of self.now }
-        ensures lines { (s : Setting) (entries : List Entry) → keeps self.now s entries → result ≡ length entries };
+        ensures lines { (s : Inquiry) (entries : List Entry) → keeps self.now s entries → result ≡ length entries };
 
     /// Keeps one line more, which this text spells.
     fn keep(&mut self, alloc: Global, text: &[u8], line: &LineRef<'_>) -> Result<(), NoMemory>
         requires room { lines_of self.old < most_lines }
         requires spelled { line_of text.now ≡ Ok line.now }
-        ensures { (s : Setting) (entries : List Entry) → keeps self.old s entries
+        ensures { (s : Inquiry) (entries : List Entry) → keeps self.old s entries
             → OnOk result (keeps self.new s (entries ++ line.now ∷ [])) };
 }
 
@@ -158,7 +158,7 @@ pub fn read_trace<K: TraceSink, R: Source>(
 ) -> Result<K, StopReason>
     requires turns { turns ≤ 2 ^ 32 }
     requires calls { turns ≤ (R.state reader.old).room }
-    ensures { (s : Setting) → K.keeps keep s []
+    ensures { (s : Inquiry) → K.keeps keep s []
         → Reads trace trace_so_far (λ k entries. K.keeps k s entries) turns (R.state reader.old) (R.state reader.new) result }
 {
     let entries = Entries {

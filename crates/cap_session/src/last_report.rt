@@ -12,7 +12,7 @@ use std::alloc::{AllocError, Global};
 /// The most runs of lines that are kept.
 const MOST_RUNS: usize = 4_096;
 
-/// The last report under the usual start: the trace of that time, what was found in it, and where each line of today
+/// The last report: the trace of that time, what was found in it, and where each line of today
 /// stood in it.
 #[derive(Drop)]
 pub struct LastReport {

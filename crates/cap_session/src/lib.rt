@@ -56,7 +56,7 @@ pub use command::number_of;
 pub use counted::Counted;
 pub use devices::{Failed, Sink, Source};
 pub use edit::{Edit, accepted_edits_give, inserted_stands, no_edit_asks_for_memory};
-pub use editing::{edit_stream, edit_stream_as};
+pub use editing::{edit_stream, edit_stream_as, edit_stream_from_as};
 pub use explained::ExplainedLine;
 pub use explaining::{explain_stream, limits_stream};
 pub use from_start::{check_stream_from, check_stream_from_as, denials_stream};
@@ -69,5 +69,5 @@ pub use laws::{
 pub use limits::{LONGEST_LINE, LONGEST_PIECE, LONGEST_SCRIPT_LINE, MOST_LINES};
 pub use outcome::{ExplainOutcome, Outcome};
 pub use refused::Refused;
-pub use session::{EditOutcome, Session};
+pub use session::{EditOutcome, Session, Setting};
 pub use start_text::{StartFault, parse_start};

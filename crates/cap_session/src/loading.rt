@@ -7,9 +7,9 @@ ghost use Rattle.cap_tree.specs.Run.{values};
 use crate::entries::TraceSink;
 use crate::limits::MOST_LINES;
 use crate::refused::Refused;
-use crate::session::Session;
+use crate::session::{Session, Setting};
 use crate::steps::step_of;
-use cap_machine::{NoMemory, Profile, Step};
+use cap_machine::{NoMemory, Profile, Start, Step};
 use cap_trace::LineRef;
 use std::alloc::Global;
 use std::marker::Model;
@@ -43,21 +43,27 @@ impl Loading {
         }
     }
 
-    /// A session of the lines, which holds as many as a trace may have.
-    pub fn session(self) -> Result<Session, Refused>
-        ensures profile { IfOk result (λ session. session.profile ≡ self.profile) }
+    /// A session of the lines from a start, which holds as many as a trace may have.
+    pub fn session(self, start: Start) -> Result<Session, Refused>
+        ensures setting { IfOk result
+            (λ session. session.setting ≡ record { profile = self.profile; start = start }) }
         ensures trace { IfOk result (λ session. session.trace ≡ self.trace) }
         ensures limit { IfOk result (λ session. session.limit ≡ most_lines) }
         ensures base { IfOk result (λ session. session.base ≡ None) }
     {
-        let mut session = Session::with_profile(self.alloc, MOST_LINES, self.profile)?;
+        let profile = self.profile;
+        let mut session = Session::with_setting(
+            self.alloc,
+            MOST_LINES,
+            Setting { profile, start },
+        )?;
         session.load_steps(self.steps)?;
         Ok(session)
     }
 }
 
 impl TraceSink for Loading {
-    ghost keeps = { λ loading setting entries. (loading.profile ≡ setting.profile) × (loading.trace ≡ entries) };
+    ghost keeps = { λ loading inquiry entries. (loading.profile ≡ inquiry.profile) × (loading.trace ≡ entries) };
 
     ghost lines_of = { λ loading. length loading.trace };
 

@@ -47,9 +47,9 @@ pub fn reply_all<R: Source, W: Sink>(
     requires begins { script.old.held ≡ [] }
     requires some { 0 < length piece.old }
     requires most { length piece.old ≤ longest_piece }
-    ensures all { RepliesToAll script.old.profile turns (R.state reader.old) (R.state reader.new) (W.state writer.old)
+    ensures all { RepliesToAll script.old.setting turns (R.state reader.old) (R.state reader.new) (W.state writer.old)
         (W.state writer.new) script.old.state script.new.state result }
-    ensures profile { script.new.profile ≡ script.old.profile }
+    ensures setting { script.new.setting ≡ script.old.setting }
 {
     read_chunks(turns, reader, script, writer, piece)
 }

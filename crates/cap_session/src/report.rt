@@ -2,13 +2,14 @@
 ghost use Rattle.std.specs.Prelude.{◌≡◌, ◌≤◌, ◌++◌, length, flat_map, codes, IfOk, OnOk};
 ghost use Rattle.cap_machine.specs.DenialReport.{denial_report};
 ghost use Rattle.cap_machine.specs.Report.{report_line, last_line};
-ghost use Rattle.cap_machine.specs.State.{start_state};
 ghost use Rattle.cap_session.specs.Changes.{gone_line, new_line};
 ghost use Rattle.cap_session.specs.Limits.{most_lines};
 ghost use Rattle.cap_session.specs.Session.{IsIn, StandWithin};
+ghost use Rattle.cap_session.specs.Settings.{state_before};
 
 use crate::changes::Changes;
-use cap_machine::{Checker, Found, NoMemory, Profile, Start, put_count, put_finding};
+use crate::session::Setting;
+use cap_machine::{Checker, Found, NoMemory, put_count, put_finding};
 use cap_summary::Summary;
 use cap_tree::Tree;
 use std::alloc::Global;
@@ -78,18 +79,17 @@ pub fn changed(
     Ok(text)
 }
 
-/// The denials of the steps of a tree, all of this profile, from a start: a line for each, and their number.
+/// The denials of the steps of a tree, all of the profile of this setting, from its start: a line for each, and their number.
 pub fn denials_of(
     alloc: Global,
-    profile: Profile,
-    start: &Start,
+    setting: &Setting,
     tree: &Tree<Summary>,
 ) -> Result<Vec<u8>, NoMemory>
     requires few { length tree.now ≤ most_lines }
-    requires in_profile { IsIn profile tree.now }
-    ensures { IfOk result (λ text. text.items ≡ denial_report (start_state start.now) tree.now) }
+    requires in_profile { IsIn setting.now.profile tree.now }
+    ensures { IfOk result (λ text. text.items ≡ denial_report (state_before setting.now) tree.now) }
 {
-    let mut checker = Checker::from_start(alloc, profile, start)?.for_denials();
+    let mut checker = Checker::from_start(alloc, setting.profile, &setting.start)?.for_denials();
     for step in tree.iter() {
         checker.line(&step.line)?;
     }

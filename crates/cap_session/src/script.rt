@@ -42,10 +42,10 @@ impl Reply {
 /// Makes an edit, and replies with the new count.
 fn perform_edit(session: &mut Session, edit: &Edit<'_>) -> Result<Reply, Refused>
     requires { session.old.limit ≡ most_lines }
-    ensures performs { Performs session.old.profile (state_of session.old)
+    ensures performs { Performs session.old.setting (state_of session.old)
         (command_asked (Command.Edit edit.now)) result (state_of session.new) }
     ensures limit { session.new.limit ≡ session.old.limit }
-    ensures profile { session.new.profile ≡ session.old.profile }
+    ensures setting { session.new.setting ≡ session.old.setting }
 {
     match session.edit(edit) {
         Ok(count) => Ok(Reply::Short(ShortText::numbered(b"ok ", count as u64))),
@@ -55,7 +55,7 @@ fn perform_edit(session: &mut Session, edit: &Edit<'_>) -> Result<Reply, Refused
 
 /// Replies with the text of a line.
 fn perform_show(session: &Session, position: usize) -> Result<Reply, Refused>
-    ensures { Performs session.now.profile (state_of session.now)
+    ensures { Performs session.now.setting (state_of session.now)
         (command_asked (Command.Show position)) result (state_of session.now) }
 {
     let mut text = session.show(position)?;
@@ -66,10 +66,10 @@ fn perform_show(session: &Session, position: usize) -> Result<Reply, Refused>
 /// Does a command, and gives its reply.
 fn perform(session: &mut Session, command: &Command<'_>) -> Result<Reply, Refused>
     requires { session.old.limit ≡ most_lines }
-    ensures performs { Performs session.old.profile (state_of session.old)
+    ensures performs { Performs session.old.setting (state_of session.old)
         (command_asked command.now) result (state_of session.new) }
     ensures limit { session.new.limit ≡ session.old.limit }
-    ensures profile { session.new.profile ≡ session.old.profile }
+    ensures setting { session.new.setting ≡ session.old.setting }
 {
     match *command {
         Command::Edit(edit) => perform_edit(session, &edit),
@@ -87,9 +87,9 @@ fn perform(session: &mut Session, command: &Command<'_>) -> Result<Reply, Refuse
 /// The reply to a line; an empty text where the line is skipped.
 fn reply_to(session: &mut Session, line: &[u8]) -> Reply
     requires { session.old.limit ≡ most_lines }
-    ensures answers { Answers session.old.profile (state_of session.old) line.now (text_of result) (state_of session.new) }
+    ensures answers { Answers session.old.setting (state_of session.old) line.now (text_of result) (state_of session.new) }
     ensures limit { session.new.limit ≡ session.old.limit }
-    ensures profile { session.new.profile ≡ session.old.profile }
+    ensures setting { session.new.setting ≡ session.old.setting }
 {
     if line.len() > LONGEST_SCRIPT_LINE {
         return Reply::Short(ShortText::refused(Refused::LongLine.code()));
@@ -110,12 +110,12 @@ fn reply_to(session: &mut Session, line: &[u8]) -> Reply
 fn answer<W: Sink>(session: &mut Session, line: &[u8], writer: &mut W) -> Result<(), Failed>
     requires limit { session.old.limit ≡ most_lines }
     requires room { 1 ≤ (W.state writer.old).room }
-    ensures ok { OnOk result (Replied session.old.profile (state_of session.old) (W.state writer.old) (W.state writer.new)
+    ensures ok { OnOk result (Replied session.old.setting (state_of session.old) (W.state writer.old) (W.state writer.new)
         (line.now ∷ []) (state_of session.new)) }
     ensures err { OnErr result
-        (Broken session.old.profile (state_of session.old) (W.state writer.old) (W.state writer.new) (line.now ∷ [])) }
+        (Broken session.old.setting (state_of session.old) (W.state writer.old) (W.state writer.new) (line.now ∷ [])) }
     ensures limit { session.new.limit ≡ session.old.limit }
-    ensures profile { session.new.profile ≡ session.old.profile }
+    ensures setting { session.new.setting ≡ session.old.setting }
 {
     let reply = reply_to(session, line);
     write_text(writer, reply.as_slice())
@@ -132,7 +132,7 @@ pub struct Script {
 impl Model for Script {
     ghost Value = { Scripting };
 
-    ghost view = { λ s. record { profile = s.session.profile; state = state_of s.session; held = s.held } };
+    ghost view = { λ s. record { setting = s.session.setting; state = state_of s.session; held = s.held } };
 
     ghost invariant = { λ s. s.session.limit ≡ most_lines };
 }
@@ -141,12 +141,12 @@ impl Script {
     /// Replies to the line that is begun, which these bytes complete.
     fn line<W: Sink>(&mut self, bytes: &[u8], writer: &mut W) -> Result<(), Failed>
         requires { 1 ≤ (W.state writer.old).room }
-        ensures ok { OnOk result (Replied self.old.profile self.old.state (W.state writer.old) (W.state writer.new)
+        ensures ok { OnOk result (Replied self.old.setting self.old.state (W.state writer.old) (W.state writer.new)
             (due_line self.old.held bytes.now) self.new.state) }
         ensures held { OnOk result (self.new.held ≡ []) }
-        ensures err { OnErr result (Broken self.old.profile self.old.state (W.state writer.old) (W.state writer.new)
+        ensures err { OnErr result (Broken self.old.setting self.old.state (W.state writer.old) (W.state writer.new)
             (due_line self.old.held bytes.now)) }
-        ensures profile { self.new.profile ≡ self.old.profile }
+        ensures setting { self.new.setting ≡ self.old.setting }
     {
         if self.held.len() > LONGEST_SCRIPT_LINE {
             self.held.clear();
@@ -164,12 +164,12 @@ impl Script {
     /// Begins a line or goes on with it, and replies where it gets too long.
     fn hold<W: Sink>(&mut self, bytes: &[u8], writer: &mut W) -> Result<(), Failed>
         requires { 1 ≤ (W.state writer.old).room }
-        ensures ok { OnOk result (Replied self.old.profile self.old.state (W.state writer.old) (W.state writer.new)
+        ensures ok { OnOk result (Replied self.old.setting self.old.state (W.state writer.old) (W.state writer.new)
             (due_piece self.old.held bytes.now) self.new.state) }
         ensures held { OnOk result (self.new.held ≡ take most_held (self.old.held ++ bytes.now)) }
-        ensures err { OnErr result (Broken self.old.profile self.old.state (W.state writer.old) (W.state writer.new)
+        ensures err { OnErr result (Broken self.old.setting self.old.state (W.state writer.old) (W.state writer.new)
             (due_piece self.old.held bytes.now)) }
-        ensures profile { self.new.profile ≡ self.old.profile }
+        ensures setting { self.new.setting ≡ self.old.setting }
     {
         let was_long = self.held.len() > LONGEST_SCRIPT_LINE;
         self.held.add_front(bytes);
@@ -183,12 +183,12 @@ impl Script {
     pub fn feed<W: Sink>(&mut self, piece: &[u8], writer: &mut W) -> Result<(), Failed>
         requires room { 1 ≤ (W.state writer.old).room }
         requires short { length piece.now ≤ longest_piece }
-        ensures ok { OnOk result (Replied self.old.profile self.old.state (W.state writer.old) (W.state writer.new)
+        ensures ok { OnOk result (Replied self.old.setting self.old.state (W.state writer.old) (W.state writer.new)
             (due self.old.held piece.now) self.new.state) }
         ensures held { OnOk result (self.new.held ≡ take most_held (last_piece self.old.held piece.now)) }
-        ensures err { OnErr result (Broken self.old.profile self.old.state (W.state writer.old) (W.state writer.new)
+        ensures err { OnErr result (Broken self.old.setting self.old.state (W.state writer.old) (W.state writer.new)
             (due self.old.held piece.now)) }
-        ensures profile { self.new.profile ≡ self.old.profile }
+        ensures setting { self.new.setting ≡ self.old.setting }
     {
         let mut ends = LineEnds::of(piece);
         while let Some(line) = ends.next() {
@@ -200,11 +200,11 @@ impl Script {
     /// Replies to the line that is begun, which is the last.
     pub fn end<W: Sink>(&mut self, writer: &mut W) -> Result<(), Failed>
         requires { 1 ≤ (W.state writer.old).room }
-        ensures ok { OnOk result (Replied self.old.profile self.old.state (W.state writer.old) (W.state writer.new)
+        ensures ok { OnOk result (Replied self.old.setting self.old.state (W.state writer.old) (W.state writer.new)
             (due_end self.old.held) self.new.state) }
         ensures err { OnErr result
-            (Broken self.old.profile self.old.state (W.state writer.old) (W.state writer.new) (due_end self.old.held)) }
-        ensures profile { self.new.profile ≡ self.old.profile }
+            (Broken self.old.setting self.old.state (W.state writer.old) (W.state writer.new) (due_end self.old.held)) }
+        ensures setting { self.new.setting ≡ self.old.setting }
     {
         if self.held.is_empty() || self.held.len() > LONGEST_SCRIPT_LINE {
             return Ok(());

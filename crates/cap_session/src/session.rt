@@ -6,9 +6,8 @@ ghost use Rattle.std.specs.Prelude.{◌≡◌, ◌+◌, ◌≤◌, ◌<◌, ◌�
 ghost use Rattle.std.specs.Prelude.{OnOk, OnErr, IsOkUnless, IsTrue, ◌*◌, vec_len, insert, remove, slice_set};
 ghost use Rattle.std.specs.Prelude.{IfSome, None, Some};
 ghost use Rattle.cap_machine.specs.Report.{report};
-ghost use Rattle.cap_machine.specs.Check.{check};
 ghost use Rattle.cap_machine.specs.DenialReport.{denial_report};
-ghost use Rattle.cap_machine.specs.State.{usual, start_state};
+ghost use Rattle.cap_machine.specs.State.{start_state};
 ghost use Rattle.cap_machine.specs.Steps.{steps};
 ghost use Rattle.cap_machine.specs.declared.cell.Profile.TheVariants.{One};
 ghost use Rattle.cap_session.specs.Edits.{inserted, deleted, replaced, loaded, edited, after, answers};
@@ -19,6 +18,7 @@ ghost use Rattle.cap_session.specs.Limits.{most_lines};
 ghost use Rattle.cap_session.specs.Replies.{shown, is_range, ranged};
 ghost use Rattle.cap_session.specs.Session.{SessionState, RefusesExactly, ran_out, lines_of, lines_at, IsIn};
 ghost use Rattle.cap_session.specs.Session.{IsSession, IsLast, base_kept};
+ghost use Rattle.cap_session.specs.Settings.{found_by, report_by, state_before, usually};
 ghost use Rattle.cap_session.specs.Changes.{changes};
 ghost use Rattle.cap_session.specs.Origins.{IsKeptAs, moved, base_of, put_in, taken_out, made_new, origins_after};
 ghost use Rattle.cap_summary.specs.Kept.{NameOrRefuseMany};
@@ -41,11 +41,18 @@ use std::alloc::Global;
 use std::marker::Model;
 use std::rc::Rc;
 
-/// The lines of a trace, at most as many as a limit, and the profile in which they are checked.
+/// By what a trace is checked: the rules of a profile, and what is known before its first line.
+#[derive(Drop)]
+pub struct Setting {
+    pub profile: Profile,
+    pub start: Start,
+}
+
+/// The lines of a trace, at most as many as a limit, with the profile and the start by which they are checked.
 #[derive(Drop)]
 pub struct Session {
     alloc: Global,
-    profile: Profile,
+    setting: Setting,
     tree: Tree<Summary>,
     joins: u64,
     limit: usize,
@@ -56,14 +63,14 @@ impl Model for Session {
     ghost Value = { SessionState };
 
     ghost view = { λ s. record {
-      profile = s.profile;
+      setting = s.setting;
       trace = lines_of s.tree;
       limit = s.limit;
       joins = s.joins;
       base = base_kept s.last;
     } };
 
-    ghost invariant = { λ s. IsSession s.profile s.limit s.tree s.last };
+    ghost invariant = { λ s. IsSession s.setting s.limit s.tree s.last };
 }
 
 /// What a list of edits gave.
@@ -83,24 +90,39 @@ fn is_range(first: usize, last: usize, count: usize) -> bool
 }
 
 impl Session {
-    /// A session in profile 1 that holds no lines, and at most `limit` later.
+    /// A session in profile 1 and from the usual start that holds no lines, and at most `limit` later.
     ///
     /// The limit must be at most [`MOST_LINES`](crate::MOST_LINES). Answers `NoMemory` where there is no memory for a
     /// session.
     pub fn new(alloc: Global, limit: usize) -> Result<Session, NoMemory>
         requires { limit ≤ most_lines }
-        ensures { IfOk result (λ s. s ≡ (record { profile = One; trace = []; limit = limit; joins = 0; base = None })) }
+        ensures { IfOk result
+            (λ s. s ≡ (record { setting = usually One; trace = []; limit = limit; joins = 0; base = None })) }
     {
         Session::with_profile(alloc, limit, Profile::One)
     }
 
-    /// A session that holds no lines, at most `limit` later, and checks them in a profile.
+    /// A session that holds no lines, at most `limit` later, and checks them in a profile from the usual start.
     ///
     /// The limit must be at most [`MOST_LINES`](crate::MOST_LINES). Answers `NoMemory` where there is no memory for a
     /// session.
     pub fn with_profile(alloc: Global, limit: usize, profile: Profile) -> Result<Session, NoMemory>
         requires { limit ≤ most_lines }
-        ensures { IfOk result (λ s. s ≡ (record { profile = profile; trace = []; limit = limit; joins = 0; base = None })) }
+        ensures { IfOk result
+            (λ s. s ≡ (record { setting = usually profile; trace = []; limit = limit; joins = 0; base = None })) }
+    {
+        let start = Start::unknown(alloc);
+        Session::with_setting(alloc, limit, Setting { profile, start })
+    }
+
+    /// A session that holds no lines, at most `limit` later, and checks them by a profile and from a start.
+    ///
+    /// The limit must be at most [`MOST_LINES`](crate::MOST_LINES). Answers `NoMemory` where there is no memory for a
+    /// session; the start is then dropped.
+    pub fn with_setting(alloc: Global, limit: usize, setting: Setting) -> Result<Session, NoMemory>
+        requires { limit ≤ most_lines }
+        ensures { IfOk result
+            (λ s. s ≡ (record { setting = setting; trace = []; limit = limit; joins = 0; base = None })) }
     {
         let mut meter = Meter::new();
         let Ok(tree) = Tree::from_list(alloc, &mut meter, Vec::new(alloc)) else {
@@ -108,7 +130,7 @@ impl Session {
         };
         Ok(Session {
             alloc,
-            profile,
+            setting,
             tree,
             joins: 0,
             limit,
@@ -135,28 +157,28 @@ impl Session {
         ensures done { IsOk (loaded self.old.limit lines.items) → IsOkUnless result Refused.Memory }
         ensures unchanged { OnErr result (self.new ≡ self.old) }
         ensures limit { self.new.limit ≡ self.old.limit }
-        ensures profile { self.new.profile ≡ self.old.profile }
+        ensures setting { self.new.setting ≡ self.old.setting }
         ensures joins { OnOk result (self.new.joins ≤ 2 * length self.new.trace) }
         ensures base { OnOk result (self.new.base ≡ None) }
     {
         if lines.len() > self.limit {
             return Err(Refused::Full);
         }
-        let steps = steps_of(self.alloc, self.profile, lines)?;
+        let steps = steps_of(self.alloc, self.setting.profile, lines)?;
         Ok(self.load_steps(steps)?)
     }
 
     /// Puts a list of steps in its profile in place of the trace, and answers its length.
     pub(crate) fn load_steps(&mut self, steps: Vec<Rc<Step>>) -> Result<usize, cap_tree::NoMemory>
         requires few { vec_len steps ≤ self.old.limit }
-        requires in_profile { IsIn self.old.profile (values steps.items) }
+        requires in_profile { IsIn self.old.setting.profile (values steps.items) }
         ensures trace { OnOk result (self.new.trace ≡ lines_of (values steps.items)) }
         ensures count { IfOk result (λ count. count ≡ length self.new.trace) }
         ensures joins { OnOk result (self.new.joins ≤ 2 * length self.new.trace) }
         ensures base { OnOk result (self.new.base ≡ None) }
         ensures unchanged { OnErr result (self.new ≡ self.old) }
         ensures limit { self.new.limit ≡ self.old.limit }
-        ensures profile { self.new.profile ≡ self.old.profile }
+        ensures setting { self.new.setting ≡ self.old.setting }
     {
         let mut meter = Meter::new();
         let tree = Tree::from_list(self.alloc, &mut meter, steps)?;
@@ -165,15 +187,15 @@ impl Session {
 
     /// Puts a tree in the place of the one that there was, with what is kept of the last report, and answers its length.
     fn take_over(&mut self, tree: Tree<Summary>, last: Option<LastReport>, meter: &Meter) -> usize
-        requires in_profile { IsIn self.old.profile tree }
+        requires in_profile { IsIn self.old.setting.profile tree }
         requires few { length tree ≤ self.old.limit }
-        requires last { IfSome last (IsLast self.old.profile tree) }
+        requires last { IfSome last (IsLast self.old.setting tree) }
         ensures trace { self.new.trace ≡ lines_of tree }
         ensures base { self.new.base ≡ base_kept last }
         ensures count { result ≡ length tree }
         ensures joins { self.new.joins ≡ meter.now }
         ensures limit { self.new.limit ≡ self.old.limit }
-        ensures profile { self.new.profile ≡ self.old.profile }
+        ensures setting { self.new.setting ≡ self.old.setting }
     {
         self.tree = tree;
         self.last = last;
@@ -195,7 +217,7 @@ impl Session {
             → IsOkUnless result Refused.Memory }
         ensures unchanged { OnErr result (self.new ≡ self.old) }
         ensures limit { self.new.limit ≡ self.old.limit }
-        ensures profile { self.new.profile ≡ self.old.profile }
+        ensures setting { self.new.setting ≡ self.old.setting }
         ensures joins { OnOk result (self.new.joins ≤ 12 * bits (length self.old.trace + 1) + 12) }
         ensures base { OnOk result (IsKeptAs (moved (put_in position) self.old.base) self.new.base) }
     {
@@ -220,7 +242,7 @@ impl Session {
         ensures done { IsOk (deleted self.old.trace position) → IsOkUnless result Refused.Memory }
         ensures unchanged { OnErr result (self.new ≡ self.old) }
         ensures limit { self.new.limit ≡ self.old.limit }
-        ensures profile { self.new.profile ≡ self.old.profile }
+        ensures setting { self.new.setting ≡ self.old.setting }
         ensures joins { OnOk result (self.new.joins ≤ 12 * bits (length self.old.trace) + 12) }
         ensures base { OnOk result (IsKeptAs (moved (taken_out position) self.old.base) self.new.base) }
     {
@@ -242,7 +264,7 @@ impl Session {
         ensures done { IsOk (replaced self.old.trace position line.now) → IsOkUnless result Refused.Memory }
         ensures unchanged { OnErr result (self.new ≡ self.old) }
         ensures limit { self.new.limit ≡ self.old.limit }
-        ensures profile { self.new.profile ≡ self.old.profile }
+        ensures setting { self.new.setting ≡ self.old.setting }
         ensures joins { OnOk result (self.new.joins ≤ 12 * bits (length self.old.trace) + 12) }
         ensures base { OnOk result (IsKeptAs (moved (made_new position) self.old.base) self.new.base) }
     {
@@ -264,9 +286,9 @@ impl Session {
         ensures only { IsOkUnless result Refused.Memory }
         ensures unchanged { OnErr result (self.new ≡ self.old) }
         ensures limit { self.new.limit ≡ self.old.limit }
-        ensures profile { self.new.profile ≡ self.old.profile }
+        ensures setting { self.new.setting ≡ self.old.setting }
     {
-        let step = step_of(self.alloc, self.profile, line)?;
+        let step = step_of(self.alloc, self.setting.profile, line)?;
         let mut meter = Meter::new();
         let tree = self.tree.insert(self.alloc, &mut meter, at, step)?;
         let last = match self.last.take() {
@@ -286,7 +308,7 @@ impl Session {
         ensures only { IsOkUnless result Refused.Memory }
         ensures unchanged { OnErr result (self.new ≡ self.old) }
         ensures limit { self.new.limit ≡ self.old.limit }
-        ensures profile { self.new.profile ≡ self.old.profile }
+        ensures setting { self.new.setting ≡ self.old.setting }
     {
         let mut meter = Meter::new();
         let tree = self.tree.remove(self.alloc, &mut meter, at)?;
@@ -307,9 +329,9 @@ impl Session {
         ensures only { IsOkUnless result Refused.Memory }
         ensures unchanged { OnErr result (self.new ≡ self.old) }
         ensures limit { self.new.limit ≡ self.old.limit }
-        ensures profile { self.new.profile ≡ self.old.profile }
+        ensures setting { self.new.setting ≡ self.old.setting }
     {
-        let step = step_of(self.alloc, self.profile, line)?;
+        let step = step_of(self.alloc, self.setting.profile, line)?;
         let mut meter = Meter::new();
         let tree = self.tree.replace(self.alloc, &mut meter, at, step)?;
         let last = match self.last.take() {
@@ -323,7 +345,7 @@ impl Session {
     ///
     /// A tree doesn't change: the next edit puts another in its place.
     pub fn tree(&self) -> &Tree<Summary>
-        ensures { result.now ≡ steps self.now.profile self.now.trace }
+        ensures { result.now ≡ steps self.now.setting.profile self.now.trace }
     {
         &self.tree
     }
@@ -340,22 +362,12 @@ impl Session {
         self.joins
     }
 
-    /// What is found in the trace from the usual start.
+    /// What is found in the trace: where anything is, by the last report, where that is kept and edits since touched what
+    /// few lines rest on, and else in one pass.
     fn found(&self) -> Result<Vec<Found>, cap_tree::NoMemory>
-        ensures { IfOk result (λ found. found.items ≡ check usual (steps self.now.profile self.now.trace)) }
+        ensures { IfOk result (λ found. found.items ≡ found_by self.now.setting self.now.trace) }
     {
-        let start = Start::unknown(self.alloc);
-        let found = self.found_from(&start);
-        drop(start);
-        found
-    }
-
-    /// What is found in the trace from the usual start: where anything is, by the last report, where that is kept and edits
-    /// since touched what few lines rest on, and else in one pass.
-    fn found_from(&self, start: &Start) -> Result<Vec<Found>, cap_tree::NoMemory>
-        requires { start_state start.now ≡ usual }
-        ensures { IfOk result (λ found. found.items ≡ check usual (steps self.now.profile self.now.trace)) }
-    {
+        let start = &self.setting.start;
         if let Some(known) = self.tree.summary().known() {
             if !known.finds(start) {
                 return Ok(Vec::new(self.alloc));
@@ -376,19 +388,19 @@ impl Session {
 
     /// Keeps what is found in the trace as the last report. Where memory is refused for that, nothing is kept.
     fn keep(&mut self, found: Vec<Found>)
-        requires { found.items ≡ check usual (steps self.old.profile self.old.trace) }
+        requires { found.items ≡ found_by self.old.setting self.old.trace }
         ensures base { IsKeptAs (Some (base_of self.old.trace)) self.new.base }
         ensures unchanged { self.new ≡ record self.old { base = self.new.base } }
     {
         self.last = LastReport::of(self.alloc, &self.tree, found);
     }
 
-    /// The report of the trace, checked from its first line under the usual start. It fails only when memory runs out.
+    /// The report of the trace, checked from its first line under the session's start. It fails only when memory runs out.
     ///
     /// It is kept, so that [`changes`](Session::changes) can tell what changed since. Where there is no memory to keep it,
     /// the report is given all the same.
     pub fn report(&mut self) -> Result<Vec<u8>, Refused>
-        ensures report { IfOk result (λ text. text.items ≡ report usual (steps self.old.profile self.old.trace)) }
+        ensures report { IfOk result (λ text. text.items ≡ report_by self.old.setting self.old.trace) }
         ensures only { IsOkUnless result Refused.Memory }
         ensures base { OnOk result (IsKeptAs (Some (base_of self.old.trace)) self.new.base) }
         ensures refused { OnErr result (self.new ≡ self.old) }
@@ -409,7 +421,7 @@ impl Session {
     /// report, after a load, where memory was refused for it, and once the lines that stood make more than 4,096 runs: lines
     /// that stood one after another at that report, and do so now, are one run.
     pub fn changes(&mut self) -> Result<Vec<u8>, Refused>
-        ensures text { IfOk result (λ text. text.items ≡ changes self.old.profile self.old.base self.old.trace) }
+        ensures text { IfOk result (λ text. text.items ≡ changes self.old.setting self.old.base self.old.trace) }
         ensures only { IsOkUnless result Refused.Memory }
         ensures base { OnOk result (IsKeptAs (Some (base_of self.old.trace)) self.new.base) }
         ensures refused { OnErr result (self.new ≡ self.old) }
@@ -423,8 +435,8 @@ impl Session {
 
     /// The text of what changed since the last report, for what is found now.
     fn changed_to(&self, found: &[Found]) -> Result<Vec<u8>, Refused>
-        requires { found.now ≡ check usual (steps self.now.profile self.now.trace) }
-        ensures text { IfOk result (λ text. text.items ≡ changes self.now.profile self.now.base self.now.trace) }
+        requires { found.now ≡ found_by self.now.setting self.now.trace }
+        ensures text { IfOk result (λ text. text.items ≡ changes self.now.setting self.now.base self.now.trace) }
         ensures only { IsOkUnless result Refused.Memory }
     {
         let Some(last) = &self.last else {
@@ -439,30 +451,30 @@ impl Session {
     /// The report of the trace, checked from its first line under another start. It fails only when memory runs out.
     pub fn report_from(&self, start: &Start) -> Result<Vec<u8>, Refused>
         ensures report { IfOk result
-            (λ text. text.items ≡ report (start_state start.now) (steps self.now.profile self.now.trace)) }
+            (λ text. text.items ≡ report (start_state start.now) (steps self.now.setting.profile self.now.trace)) }
         ensures only { IsOkUnless result Refused.Memory }
     {
         let found = resolve(self.alloc, self.tree.summary(), start)?;
         Ok(text_of(self.alloc, &self.tree, found.as_slice())?)
     }
 
-    /// What was lacking for each line that errno 93 or 94 refused, from a start: a line for each denial, and how many they
-    /// are. It fails only when memory runs out.
-    pub fn denials(&self, start: &Start) -> Result<Vec<u8>, Refused>
-        ensures denials { IfOk result
-            (λ text. text.items ≡ denial_report (start_state start.now) (steps self.now.profile self.now.trace)) }
+    /// What was lacking for each line that errno 93 or 94 refused: a line for each denial, and how many they are. It fails
+    /// only when memory runs out.
+    pub fn denials(&self) -> Result<Vec<u8>, Refused>
+        ensures denials { IfOk result (λ text. text.items
+            ≡ denial_report (state_before self.now.setting) (steps self.now.setting.profile self.now.trace)) }
         ensures only { IsOkUnless result Refused.Memory }
     {
-        Ok(denials_of(self.alloc, self.profile, start, &self.tree)?)
+        Ok(denials_of(self.alloc, &self.setting, &self.tree)?)
     }
 
-    /// The script of the limits that the trace needs, from a start: right after each line that made a descriptor; or
-    /// before the line at a position, from 1, of the descriptors of its process. `limits_stream` says more. It copies the
-    /// lines.
+    /// The script of the limits that the trace needs: right after each line that made a descriptor; or before the line at a
+    /// position, from 1, of the descriptors of its process. `limits_stream` says more. It copies the lines.
     ///
     /// `Position` where no line is at the position, and `Memory` where memory runs out.
-    pub fn limits(&self, at: Option<usize>, start: &Start) -> Result<Vec<u8>, Refused>
-        ensures text { IfOk result (λ text. IsLimitsText self.now.profile at start.now self.now.trace text.items) }
+    pub fn limits(&self, at: Option<usize>) -> Result<Vec<u8>, Refused>
+        ensures text { IfOk result (λ text. IsLimitsText self.now.setting.profile at self.now.setting.start self.now.trace
+            text.items) }
         ensures position { (result ≡ Err Refused.Position) ↔ IsOutside at self.now.trace }
         ensures only { OnErr result ((result ≡ Err Refused.Position) ⊎ (result ≡ Err Refused.Memory)) }
     {
@@ -470,33 +482,36 @@ impl Session {
             return Err(Refused::Position);
         }
         let lines = copies_of(self.alloc, &self.tree)?;
-        limits_among(self.alloc, self.profile, start, &lines, at)
+        limits_among(
+            self.alloc,
+            self.setting.profile,
+            &self.setting.start,
+            &lines,
+            at,
+        )
     }
 
     /// Whether the report of the trace has no finding. Where the last report still stands, that says so. It fails only when
     /// memory runs out, and takes none where something is known of the whole trace: that is, unless the trace names or
     /// refuses much.
     pub(crate) fn is_clean(&self) -> Result<bool, cap_tree::NoMemory>
-        ensures clean { IfOk result (λ clean. IsTrue clean ↔ (check usual (steps self.now.profile self.now.trace) ≡ [])) }
-        ensures few { OnErr result (NameOrRefuseMany (steps self.now.profile self.now.trace)) }
+        ensures clean { IfOk result (λ clean. IsTrue clean ↔ (found_by self.now.setting self.now.trace ≡ [])) }
+        ensures few { OnErr result (NameOrRefuseMany (steps self.now.setting.profile self.now.trace)) }
     {
         if let Some(last) = &self.last {
             if last.stands() {
                 return Ok(last.found.is_empty());
             }
         }
-        let start = Start::unknown(self.alloc);
-        let clean = self.is_clean_from(&start);
-        drop(start);
-        clean
+        self.is_clean_anew()
     }
 
-    /// Whether the report under this start has no finding.
-    fn is_clean_from(&self, start: &Start) -> Result<bool, cap_tree::NoMemory>
-        ensures clean { IfOk result (λ clean. IsTrue clean
-            ↔ (check (start_state start.now) (steps self.now.profile self.now.trace) ≡ [])) }
-        ensures few { OnErr result (NameOrRefuseMany (steps self.now.profile self.now.trace)) }
+    /// Whether the report has no finding, whatever the last one was.
+    fn is_clean_anew(&self) -> Result<bool, cap_tree::NoMemory>
+        ensures clean { IfOk result (λ clean. IsTrue clean ↔ (found_by self.now.setting self.now.trace ≡ [])) }
+        ensures few { OnErr result (NameOrRefuseMany (steps self.now.setting.profile self.now.trace)) }
     {
+        let start = &self.setting.start;
         let summary = self.tree.summary();
         if let Some(known) = summary.known() {
             return Ok(!known.finds(start));
@@ -525,35 +540,35 @@ impl Session {
     ///
     /// `Position` unless 1 <= `first` <= `last` <= the number of lines, and `Memory` where memory runs out.
     pub fn report_range(&self, first: usize, last: usize) -> Result<Vec<u8>, Refused>
-        ensures text { IfOk result (λ text. ranged self.now.profile self.now.trace first last ≡ Ok text.items) }
+        ensures text { IfOk result (λ text. ranged self.now.setting self.now.trace first last ≡ Ok text.items) }
         ensures position { (result ≡ Err Refused.Position)
-            ↔ (ranged self.now.profile self.now.trace first last ≡ Err Refused.Position) }
+            ↔ (ranged self.now.setting self.now.trace first last ≡ Err Refused.Position) }
         ensures only { OnErr result ((result ≡ Err Refused.Position) ⊎ (result ≡ Err Refused.Memory)) }
     {
         if !is_range(first, last, self.count()) {
             return Err(Refused::Position);
         }
-        let start = Start::unknown(self.alloc);
-        let found = resolve_range(self.alloc, self.tree.summary(), &start, first, last);
-        drop(start);
-        Ok(text_of(self.alloc, &self.tree, found?.as_slice())?)
+        let start = &self.setting.start;
+        let found = resolve_range(self.alloc, self.tree.summary(), start, first, last)?;
+        Ok(text_of(self.alloc, &self.tree, found.as_slice())?)
     }
 
-    /// The line at a position, what is said of it, and the lines that this rests on, from a start.
+    /// The line at a position, what is said of it, and the lines that this rests on.
     ///
     /// `Position` where no line is there, and `Memory` where memory runs out.
-    pub fn explain(&self, position: usize, start: &Start) -> Result<ExplainedLine, Refused>
-        ensures text { IfOk result (λ line.
-            explained_line (start_state start.now) self.now.profile self.now.trace position ≡ Ok line.text.items) }
-        ensures clean { IfOk result (λ line.
-            IsTrue line.is_clean ↔ IsClean (start_state start.now) self.now.profile self.now.trace position) }
-        ensures position { (result ≡ Err Refused.Position)
-            ↔ (explained_line (start_state start.now) self.now.profile self.now.trace position ≡ Err Refused.Position) }
+    pub fn explain(&self, position: usize) -> Result<ExplainedLine, Refused>
+        ensures text { IfOk result (λ line. explained_line (state_before self.now.setting) self.now.setting.profile
+            self.now.trace position ≡ Ok line.text.items) }
+        ensures clean { IfOk result (λ line. IsTrue line.is_clean
+            ↔ IsClean (state_before self.now.setting) self.now.setting.profile self.now.trace position) }
+        ensures position { (result ≡ Err Refused.Position) ↔ (explained_line (state_before self.now.setting)
+            self.now.setting.profile self.now.trace position ≡ Err Refused.Position) }
         ensures only { OnErr result ((result ≡ Err Refused.Position) ⊎ (result ≡ Err Refused.Memory)) }
     {
         if !is_position(position, self.count()) {
             return Err(Refused::Position);
         }
+        let start = &self.setting.start;
         let Some(explanation) = explain(self.alloc, self.tree.summary(), start, position)? else {
             return Err(Refused::Position);
         };
@@ -571,7 +586,7 @@ impl Session {
         ensures done { IsOk (edited self.old.limit self.old.trace edit.now) → IsOkUnless result Refused.Memory }
         ensures unchanged { OnErr result (self.new ≡ self.old) }
         ensures limit { self.new.limit ≡ self.old.limit }
-        ensures profile { self.new.profile ≡ self.old.profile }
+        ensures setting { self.new.setting ≡ self.old.setting }
         ensures joins { OnOk result
             (self.new.joins ≤ 12 * bits (lines_at (length self.old.trace) edit.now) + 12) }
         ensures base { OnOk result (IsKeptAs (moved (origins_after edit.now) self.old.base) self.new.base) }
@@ -598,7 +613,7 @@ impl Session {
         ensures joins { IfOk result (λ answered. JoinsAfter self.old self.new answered.items) }
         ensures unchanged { OnErr result (self.new ≡ self.old) }
         ensures limit { self.new.limit ≡ self.old.limit }
-        ensures profile { self.new.profile ≡ self.old.profile }
+        ensures setting { self.new.setting ≡ self.old.setting }
         ensures only { IsOkUnless result Refused.Memory }
     {
         let mut answered = Vec::with_capacity(self.alloc, edits.len())?;
@@ -614,8 +629,8 @@ impl Session {
     /// `Memory` where there is no memory for the answers. No edit is made then.
     pub fn report_after(&mut self, edits: &[Edit<'_>]) -> Result<EditOutcome, Refused>
         // After any edits, the report is that of checking anew the trace which the accepted edits give.
-        ensures report { IfOk result (λ r. IfOk r.report (λ text. text.items ≡ report usual
-            (steps self.old.profile (after self.old.limit self.old.trace edits.now (ran_out r.answers.items))))) }
+        ensures report { IfOk result (λ r. IfOk r.report (λ text. text.items ≡ report_by self.old.setting
+            (after self.old.limit self.old.trace edits.now (ran_out r.answers.items)))) }
         ensures report_only { IfOk result (λ r. IsOkUnless r.report Refused.Memory) }
         ensures each { IfOk result (λ r. length r.answers.items ≡ length edits.now) }
         ensures trace { IfOk result
@@ -625,7 +640,7 @@ impl Session {
         ensures joins { IfOk result (λ r. JoinsAfter self.old self.new r.answers.items) }
         ensures unchanged { OnErr result (self.new ≡ self.old) }
         ensures limit { self.new.limit ≡ self.old.limit }
-        ensures profile { self.new.profile ≡ self.old.profile }
+        ensures setting { self.new.setting ≡ self.old.setting }
         ensures only { IsOkUnless result Refused.Memory }
     {
         let answers = self.apply(edits)?;

@@ -6,7 +6,8 @@ use crate::devices::{Kept, Pieces};
 use cap_machine::Profile;
 use cap_session::{
     ExplainOutcome, check_stream, check_stream_as, check_stream_from, check_stream_from_as,
-    denials_stream, edit_stream, edit_stream_as, explain_stream, limits_stream,
+    denials_stream, edit_stream, edit_stream_as, edit_stream_from_as, explain_stream,
+    limits_stream,
 };
 use std::alloc::Global;
 use std::test::Fail;
@@ -16,7 +17,8 @@ pub fn wanted(is_so: bool, words: &str) -> Result<(), Fail> {
     if is_so { Ok(()) } else { Err(Fail::new(words)) }
 }
 
-/// A call over devices. Those that explain a line have its position, and so may those that write limits.
+/// A call over devices. Those that explain a line have its position, and so may those that write limits. An edit from a
+/// start has its text.
 #[derive(Clone, Copy)]
 pub enum Call {
     Check,
@@ -26,6 +28,7 @@ pub enum Call {
     Denials(Profile),
     Edit,
     EditAs(Profile),
+    EditFrom(Profile, &'static [u8]),
     Explain(Profile, usize),
     Limits(Profile, Option<usize>),
 }
@@ -104,6 +107,10 @@ fn made(
         Call::Denials(profile) => denials_stream(alloc, profile, turns, other, trace, writer),
         Call::Edit => edit_stream(alloc, turns, trace, other, writer),
         Call::EditAs(profile) => edit_stream_as(alloc, profile, turns, trace, other, writer),
+        Call::EditFrom(profile, start) => {
+            let mut start = Pieces::new(start, 9, 0);
+            edit_stream_from_as(alloc, profile, turns, &mut start, trace, other, writer)
+        }
         Call::Explain(profile, at) => {
             return explain_stream(alloc, profile, turns, at, other, trace, writer);
         }

@@ -416,7 +416,7 @@ const ENDLESS: Run<'static> = Run {
     ..AT_ONCE
 };
 
-static BROKEN: [Run<'static>; 23] = [
+static BROKEN: [Run<'static>; 24] = [
     // A profile decides what an exec closes.
     Run {
         trace: (EXECUTED, 20, 0),
@@ -529,6 +529,15 @@ static BROKEN: [Run<'static>; 23] = [
         room: (7, 12),
         outcome: Ended(Outcome::WriteFault),
         written: "refused E3 s",
+        ..NOT_FROM
+    },
+    // Nor is the script of an edit read.
+    Run {
+        call: Call::EditFrom(Profile::One, b"x\n100 out closed\n"),
+        other: (b"count\n", 99, 0),
+        outcome: Ended(Outcome::StartRefused { code: 3, line: 1 }),
+        written: "refused E3 start line 1\n",
+        other_reads: Some(0),
         ..NOT_FROM
     },
     // Replies before a fault stand.

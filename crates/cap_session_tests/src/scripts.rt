@@ -1,11 +1,11 @@
 //! Worked scripts, with the replies to them.
 
-use crate::answers::Call::{Edit, EditAs};
+use crate::answers::Call::{Edit, EditAs, EditFrom};
 use crate::answers::{Worked, are_answered, is_answered, wanted};
 use crate::texts::repeated;
 use cap_machine::Profile::{One, Two};
 use cap_session::ExplainOutcome::Ended;
-use cap_session::Outcome::{Clean, Findings, Refused};
+use cap_session::Outcome::{Clean, Findings, Refused, StartRefused};
 use std::test::Fail;
 
 /// A trace that a descriptor was limited in.
@@ -16,7 +16,10 @@ const LIMITED: &[u8] =
 const EXECUTED: &[u8] =
     b"100 @start(0,3)\n100 open(\"a\",O_RDONLY|O_CLOEXEC) RET 5\n100 execve(\"/bin/x\") RET 0\n100 read(5) RET 1\n";
 
-static SCRIPTS: [Worked<'static>; 13] = [
+/// What is known of a process: that it may read from a descriptor.
+const READING: &[u8] = b"100 unsure unknown 0=CAP_READ\n";
+
+static SCRIPTS: [Worked<'static>; 16] = [
     (
         Edit,
         b"100 @start(0,3)\n100 cap_rights_limit(0,CAP_READ) RET 0\n100 cap_rights_limit(0,CAP_READ|CAP_WRITE) RET 0\n100 write(0) RET 1\n",
@@ -65,6 +68,27 @@ static SCRIPTS: [Worked<'static>; 13] = [
         b"count\n",
         Ended(Refused { code: 4, line: 4 }),
         "refused E4 line 4\n",
+    ),
+    (
+        EditFrom(One, READING),
+        b"100 write(0) RET 1\n",
+        b"report\nreport 1 1\nchanges\ninsert 1 100 close(0) RET 0\nchanges\n",
+        Ended(Findings),
+        "1 100 write missing 0 CAP_WRITE\nfindings 1\n1 100 write missing 0 CAP_WRITE\nfindings 1\nfindings 1\nok 2\n- 1 100 write missing 0 CAP_WRITE\n+ 2 100 write closed 0\nfindings 1\n",
+    ),
+    (
+        EditFrom(Two, b""),
+        EXECUTED,
+        b"report\ndelete 3\n",
+        Ended(Clean),
+        "4 100 read closed 5\nfindings 1\nok 3\n",
+    ),
+    (
+        EditFrom(One, b"100 up closed\n"),
+        b"x\n",
+        b"count\n",
+        Ended(StartRefused { code: 4, line: 1 }),
+        "refused E4 start line 1\n",
     ),
     (Edit, b"", &[b'#'; 1056], Ended(Clean), ""),
     (Edit, b"", &[b'#'; 1057], Ended(Clean), "refused E1\n"),

@@ -3,9 +3,9 @@
 use crate::answers::wanted;
 use Change::{By, Load, Make};
 use bstr::ByteSlice;
-use cap_machine::{NoMemory, Profile, Start};
+use cap_machine::Profile;
 use cap_session::Edit::{self, Delete, Insert, Replace};
-use cap_session::{ExplainOutcome, ExplainedLine, Outcome, Refused, Session, parse_start};
+use cap_session::{ExplainOutcome, ExplainedLine, Outcome, Refused, Session, Setting, parse_start};
 use cap_trace::{Line, parse_line};
 use std::alloc::Global;
 use std::test::Fail;
@@ -19,9 +19,8 @@ pub enum Query {
     Report,
     /// What changed since the last report.
     Changes,
-    /// The report from the start of the case.
-    ReportFrom,
-    /// The denials from the start of the case.
+    /// The report from this start.
+    ReportFrom(&'static [u8]),
     Denials,
     /// The limits, after the lines that made descriptors or before a line.
     Limits(Option<usize>),
@@ -51,13 +50,14 @@ pub enum Step<'a> {
     Explain(usize, ExplainOutcome, &'a str),
 }
 
-/// A session, what is known before it, and what is done with it.
+/// A session, and what is done with it.
 #[derive(Drop)]
 pub struct Case<'a> {
     pub name: &'a str,
     pub limit: usize,
-    /// None where the session is made without one.
+    /// None where the session is made without one, and from the usual start.
     pub profile: Option<Profile>,
+    /// Its start. Where this is empty it is made without one.
     pub start: &'a [u8],
     pub steps: &'a [Step<'a>],
 }
@@ -120,19 +120,31 @@ fn reports_after(
     }
 }
 
+/// The report of a session from this start.
+fn reported_from(alloc: Global, session: &Session, start: &[u8]) -> Result<Vec<u8>, Refused> {
+    match parse_start(alloc, start) {
+        Ok(start) => {
+            let report = session.report_from(&start);
+            drop(start);
+            report
+        }
+        Err(_) => Err(Refused::Argument),
+    }
+}
+
 /// Whether a session was asked, and answers so.
 fn answers_query(
+    alloc: Global,
     session: &mut Session,
-    start: &Start,
     query: &Query,
     answer: Result<&str, Refused>,
 ) -> bool {
     let given = match query {
         Query::Report => session.report(),
         Query::Changes => session.changes(),
-        Query::ReportFrom => session.report_from(start),
-        Query::Denials => session.denials(start),
-        Query::Limits(at) => session.limits(*at, start),
+        Query::ReportFrom(start) => reported_from(alloc, session, start),
+        Query::Denials => session.denials(),
+        Query::Limits(at) => session.limits(*at),
         Query::Range(first, last) => session.report_range(*first, *last),
         Query::Show(position) => session.show(*position),
     };
@@ -168,54 +180,46 @@ fn explains(
 }
 
 /// Whether a session answers a step so.
-fn answers(alloc: Global, session: &mut Session, start: &Start, step: &Step<'_>) -> bool {
+fn answers(alloc: Global, session: &mut Session, step: &Step<'_>) -> bool {
     match step {
         Step::Count(count) => session.count() == *count,
         Step::Change(change, answer) => changes(alloc, session, change, *answer),
         Step::Apply(edits, answers) => applies(session, edits, answers),
         Step::ReportAfter(edits, answers, report) => reports_after(session, edits, answers, report),
-        Step::Ask(query, answer) => answers_query(session, start, query, *answer),
-        Step::Explain(at, outcome, text) => {
-            explains(&session.explain(*at, start), *outcome, text)
-        }
+        Step::Ask(query, answer) => answers_query(alloc, session, query, *answer),
+        Step::Explain(at, outcome, text) => explains(&session.explain(*at), *outcome, text),
     }
 }
 
 /// Whether a session answers each step so.
-fn answers_all(alloc: Global, session: &mut Session, start: &Start, steps: &[Step<'_>]) -> bool {
+fn answers_all(alloc: Global, session: &mut Session, steps: &[Step<'_>]) -> bool {
     for step in steps {
-        if !answers(alloc, session, start, step) {
+        if !answers(alloc, session, step) {
             return false;
         }
     }
     true
 }
 
-/// Whether a session answers all steps of a case from its start.
-fn answers_from(alloc: Global, session: &mut Session, case: &Case<'_>) -> bool {
-    match parse_start(alloc, case.start) {
-        Ok(start) => {
-            let is_so = answers_all(alloc, session, &start, case.steps);
-            drop(start);
-            is_so
-        }
-        Err(_) => false,
-    }
-}
-
 /// The session of a case.
-fn session_of(alloc: Global, case: &Case<'_>) -> Result<Session, NoMemory> {
+fn session_of(alloc: Global, case: &Case<'_>) -> Result<Session, Refused> {
     let limit = case.limit.min(1_000_000);
-    match case.profile {
-        Some(profile) => Session::with_profile(alloc, limit, profile),
-        None => Session::new(alloc, limit),
+    let Some(profile) = case.profile else {
+        return Ok(Session::new(alloc, limit)?);
+    };
+    if case.start.is_empty() {
+        return Ok(Session::with_profile(alloc, limit, profile)?);
+    }
+    match parse_start(alloc, case.start) {
+        Ok(start) => Ok(Session::with_setting(alloc, limit, Setting { profile, start })?),
+        Err(_) => Err(Refused::Argument),
     }
 }
 
 /// Fails a test where the session of a case doesn't answer so.
 pub fn holds(alloc: Global, case: &Case<'_>) -> Result<(), Fail> {
     let mut session = session_of(alloc, case)?;
-    let is_so = answers_from(alloc, &mut session, case);
+    let is_so = answers_all(alloc, &mut session, case.steps);
     drop(session);
     wanted(is_so, case.name)
 }
@@ -275,7 +279,7 @@ const WRITE: Edit<'static> = Insert {
     line: b"100 write(0) RET 1",
 };
 
-static CASES: [Case<'static>; 19] = [
+static CASES: [Case<'static>; 20] = [
     Case {
         name: "the example at the head of the crate",
         limit: 10,
@@ -533,25 +537,61 @@ static CASES: [Case<'static>; 19] = [
         ],
     },
     Case {
-        name: "a report in profile 1 is under its start",
+        name: "a report in profile 1 is under the usual start, or under another that is asked for",
         limit: 1,
         profile: Some(Profile::One),
-        start: READING,
+        start: b"",
         steps: &[
             Step::Change(By(WRITE), Ok(1)),
-            Step::Ask(Query::ReportFrom, Ok(FINDS_WRITE)),
+            Step::Ask(Query::ReportFrom(READING), Ok(FINDS_WRITE)),
             Step::Ask(Query::Report, Ok(FINDS_NONE)),
         ],
     },
     Case {
-        name: "a report in profile 2 is under its start",
+        name: "a report in profile 2 is under the start of the session, or under another that is asked for",
         limit: 1,
         profile: Some(Profile::Two),
         start: READING,
         steps: &[
             Step::Change(By(WRITE), Ok(1)),
-            Step::Ask(Query::ReportFrom, Ok(FINDS_WRITE)),
-            Step::Ask(Query::Report, Ok(FINDS_NONE)),
+            Step::Ask(Query::ReportFrom(b""), Ok(FINDS_NONE)),
+            Step::Ask(Query::Report, Ok(FINDS_WRITE)),
+        ],
+    },
+    Case {
+        name: "what went and what came, and a part of a report, are under the start of the session",
+        limit: 10,
+        profile: Some(Profile::One),
+        start: READING,
+        steps: &[
+            Step::Change(By(WRITE), Ok(1)),
+            Step::Ask(
+                Query::Changes,
+                Ok("all\n+ 1 100 write missing 0 CAP_WRITE\nfindings 1\n"),
+            ),
+            Step::Change(By(OTHER), Ok(2)),
+            Step::Ask(Query::Range(1, 1), Ok(FINDS_NONE)),
+            Step::Ask(
+                Query::Range(2, 2),
+                Ok("2 100 write missing 0 CAP_WRITE\nfindings 1\n"),
+            ),
+            Step::Change(
+                By(Insert {
+                    position: 2,
+                    line: b"100 close(0) RET 0",
+                }),
+                Ok(3),
+            ),
+            Step::Ask(
+                Query::Changes,
+                Ok("- 2 100 write missing 0 CAP_WRITE\n+ 3 100 write closed 0\nfindings 1\n"),
+            ),
+            Step::Apply(&[Delete { position: 2 }], &[Ok(2)]),
+            Step::ReportAfter(
+                &[Delete { position: 1 }],
+                &[Ok(1)],
+                "1 100 write missing 0 CAP_WRITE\nfindings 1\n",
+            ),
         ],
     },
     Case {
@@ -657,7 +697,7 @@ static CASES: [Case<'static>; 19] = [
         name: "other reports leave the last one alone, and a load forgets it",
         limit: 10,
         profile: None,
-        start: READING,
+        start: b"",
         steps: &[
             Step::Change(Load(SOUGHT), Ok(3)),
             Step::Ask(Query::Report, Ok(LACKS_TWO)),
@@ -667,7 +707,7 @@ static CASES: [Case<'static>; 19] = [
                 Ok("4 100 pwrite missing 0 CAP_WRITE|CAP_SEEK\nfindings 1\n"),
             ),
             Step::Ask(
-                Query::ReportFrom,
+                Query::ReportFrom(READING),
                 Ok("4 100 pwrite missing 0 CAP_WRITE|CAP_SEEK\nfindings 1\n"),
             ),
             Step::Ask(Query::Changes, Ok("findings 1\n")),

@@ -4,6 +4,8 @@ use Rattle.cap_machine.specs.State.{Added}
 use Rattle.cap_machine.specs.declared.cell.Profile.{Profile}
 use Rattle.cap_session.specs.AnswerStreams.{Says, AnswerStartStreams}
 use Rattle.cap_session.specs.Devices.{SourceState, SinkState}
+use Rattle.cap_session.specs.EditStreams.{EditStreams}
+use Rattle.cap_session.specs.declared.session.Setting.{Setting}
 use Rattle.cap_session.specs.declared.outcome.Outcome.TheVariants.{ReadFault}
 use Rattle.cap_session.specs.declared.outcome.ExplainOutcome.TheVariants.{Ended}
 use Rattle.capcheck.specs.Runs.{NeverFail, TaskIsNoFault, TaskStreams, turns}
@@ -20,15 +22,21 @@ module _ {R : Type 0} (state : R → SourceState) (never : NeverFail state) wher
   answered says z0 z1 r0 r1 w0 w1 (inl s) = none z0 z1 s.stopped.read_fault
   answered says z0 z1 r0 r1 w0 w1 (inr s) = none r0 r1 s.done.read_fault
 
-  performed : (profile : Profile) (task : Task) (z0 z1 r0 r1 : R) (w0 w1 : SinkState)
-      → TaskStreams profile task (state z0) (state z1) (state r0) (state r1) w0 w1 (Ended ReadFault) → ⊥
-  performed profile (Ask question) z0 z1 r0 r1 w0 w1 s = answered _ z0 z1 r0 r1 w0 w1 s
-  performed profile (Explain position) z0 z1 r0 r1 w0 w1 s = answered _ z0 z1 r0 r1 w0 w1 s
-  performed profile (Limits at) z0 z1 r0 r1 w0 w1 s = answered _ z0 z1 r0 r1 w0 w1 s
-  performed profile Edit z0 z1 r0 r1 w0 w1 (inl s) = none r0 r1 s.stopped.read_fault
-  performed profile Edit z0 z1 r0 r1 w0 w1 (inr s) = none z0 z1 s.done.read_fault
+  edited : (setting : Setting) (r0 r1 s0 s1 : R) (w0 w1 : SinkState)
+      → EditStreams setting turns (state r0) (state r1) (state s0) (state s1) w0 w1 ReadFault → ⊥
+  edited setting r0 r1 s0 s1 w0 w1 (inl s) = none r0 r1 s.stopped.read_fault
+  edited setting r0 r1 s0 s1 w0 w1 (inr s) = none s0 s1 s.done.read_fault
+
+  performed : (profile : Profile) (task : Task) (z0 z1 r0 r1 s0 s1 : R) (w0 w1 : SinkState)
+      → TaskStreams profile task (state z0) (state z1) (state r0) (state r1) (state s0) (state s1) w0 w1 (Ended ReadFault)
+      → ⊥
+  performed profile (Ask question) z0 z1 r0 r1 s0 s1 w0 w1 s = answered _ z0 z1 r0 r1 w0 w1 s
+  performed profile (Explain position) z0 z1 r0 r1 s0 s1 w0 w1 s = answered _ z0 z1 r0 r1 w0 w1 s
+  performed profile (Limits at) z0 z1 r0 r1 s0 s1 w0 w1 s = answered _ z0 z1 r0 r1 w0 w1 s
+  performed profile Edit z0 z1 r0 r1 s0 s1 w0 w1 (inl s) = none z0 z1 s.0.stopped.read_fault
+  performed profile Edit z0 z1 r0 r1 s0 s1 w0 w1 (inr s) = edited _ r0 r1 s0 s1 w0 w1 s.done
 
   pub task_is_no_fault : {T : Type 0} (opens : Opens T R) → TaskIsNoFault state opens
   task_is_no_fault opens known run t0 t1 w0 w1 (inl u) = u.why
   task_is_no_fault opens known run t0 t1 w0 w1 (inr b) =
-      absurd (performed run.profile run.task b.z0 b.z1 b.r0 b.r1 w0 w1 b.reads)
+      absurd (performed run.profile run.task b.z0 b.z1 b.r0 b.r1 b.s0 b.s1 w0 w1 b.reads)

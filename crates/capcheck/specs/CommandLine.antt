@@ -41,9 +41,9 @@ reading_words name = with_start (with_rule (new_app name) (word_rule (codes "tra
 abbrev pub file_words : Text → App
 file_words name = with_rule (new_app name) (needed_rule (codes "trace"))
 
--- edit FILE [SCRIPT], with the options
+-- edit FILE [SCRIPT], with --start and the options
 abbrev pub edit_words : App
-edit_words = with_options (with_rule (file_words (codes "edit")) (word_rule (codes "script")))
+edit_words = with_start (with_rule (file_words (codes "edit")) (word_rule (codes "script")))
 
 -- explain FILE K, with --start and the options
 abbrev pub explain_words : App

@@ -1,7 +1,7 @@
 -- What the words of the command line ask for, said by `clap`'s own functions: which words ask for which run, which
 -- for help, and which are a mistake. `Fits` is the contract of `plan_of`.
 use Rattle.std.specs.Prelude.{◌≡◌, ◌⊎◌, ℕ, List, [], Option, Some, None, codes, option_map}
-use Rattle.std.specs.Prelude.{option_and_then, if◌then◌else◌, Bool, false, not, ◌&&◌, is_some}
+use Rattle.std.specs.Prelude.{option_and_then, if◌then◌else◌, Bool, false, not, ◌&&◌, ◌||◌, is_some}
 use Rattle.std.specs.Str.{bytes_eq}
 use Rattle.std.specs.Borrow.{Bor}
 use Rattle.clap.specs.Words.{HasKind, IsAmong, Kinds, Row, Text, fault_of, first_of, kind_of, subcommand_of}
@@ -19,11 +19,12 @@ use Rattle.cap_machine.specs.declared.cell.Profile.TheVariants.{One, Two}
 use Rattle.cap_machine.specs.declared.question.Question.TheVariants.{Findings, Denials}
 use Rattle.cap_session.specs.Commands.{position}
 
--- A run of the program: the trace of this name, or standard input; what is read beside it, nothing or the text of this
+-- A run of the program: the start, where one is named, the trace, and the script, where there is one, each the text of this
 -- name, or standard input; the profile; whether words on standard error are asked for; and what is done.
 pub record NamedRun : Type 0 where
+  pub start : Option (Option Text)
   pub trace : Option Text
-  pub beside : Option (Option Text)
+  pub script : Option (Option Text)
   pub profile : Profile
   pub verbose : Bool
   pub task : Task
@@ -36,10 +37,14 @@ text_named name = if bytes_eq name (codes "-") then None else Some name
 abbrev pub text_among : Text → List Row → Option Text
 text_among id rows = option_and_then text_named (first_of id rows)
 
--- what is read beside the trace: the script of an edit, else the start, where one is named
-abbrev pub beside_among : Task → List Row → Option (Option Text)
-beside_among Edit rows = Some (text_among (codes "script") rows)
-beside_among _ rows = option_map text_named (first_of (codes "start") rows)
+-- the start, where one is named
+abbrev pub start_among : List Row → Option (Option Text)
+start_among rows = option_map text_named (first_of (codes "start") rows)
+
+-- the script, which an edit alone has
+abbrev pub script_among : Task → List Row → Option (Option Text)
+script_among Edit rows = Some (text_among (codes "script") rows)
+script_among _ rows = None
 
 -- the profile of the value of `--profile`, and 1 where it isn't given
 abbrev pub profile_named : Option Text → Option Profile
@@ -74,20 +79,26 @@ task_in name rows = if bytes_eq name (codes "check") then Some (Ask Findings)
     else (if bytes_eq name (codes "explain") then option_map Explain (option_and_then (λ k. k) (place_among rows))
     else (if bytes_eq name (codes "limits") then option_map Limits (place_among rows) else None))))
 
--- what is read beside the trace, and whether both are standard input, which can be read once
-abbrev pub is_input_twice : Option (Option Text) → Option Text → Bool
-is_input_twice None trace = false
-is_input_twice (Some name) trace = not (is_some name) && not (is_some trace)
+-- whether a text that a run may have is standard input
+abbrev pub is_input : Option (Option Text) → Bool
+is_input None = false
+is_input (Some name) = not (is_some name)
+
+-- whether two of a start, a trace and a script are standard input, which can be read once
+abbrev pub is_input_twice : Option (Option Text) → Option Text → Option (Option Text) → Bool
+is_input_twice start trace script = not (is_some trace) && (is_input start || is_input script)
+    || is_input start && is_input script
 
 -- the run, unless it would read standard input twice
 abbrev pub once : NamedRun → Option NamedRun
-once run = if is_input_twice run.beside run.trace then None else Some run
+once run = if is_input_twice run.start run.trace run.script then None else Some run
 
 -- the run that a task and the values of the arguments name
 abbrev pub run_for : List Row → Task → Option NamedRun
 run_for rows task = option_and_then (λ profile. once (record {
+  start = start_among rows;
   trace = text_among (codes "trace") rows;
-  beside = beside_among task rows;
+  script = script_among task rows;
   profile = profile;
   verbose = verbose_among rows;
   task = task;
@@ -127,8 +138,9 @@ seen = option_map (λ text. text.now)
 
 abbrev pub run_of : Run → NamedRun
 run_of r = record {
+  start = option_map seen r.start;
   trace = seen r.trace;
-  beside = option_map seen r.beside;
+  script = option_map seen r.script;
   profile = r.profile;
   verbose = r.verbose;
   task = r.task;

@@ -5,7 +5,7 @@ use Rattle.std.specs.Prelude.{option_map, option_to_list, string_bytes}
 use Rattle.clap.specs.Words.{Text}
 use Rattle.cap_machine.specs.declared.cell.Profile.{Profile}
 use Rattle.cap_session.specs.Devices.{SourceState, SinkState}
-use Rattle.cap_session.specs.EditStreams.{EditStreams}
+use Rattle.cap_session.specs.EditStreams.{EditStartStreams}
 use Rattle.cap_session.specs.AnswerStreams.{AnswerStartStreams}
 use Rattle.cap_session.specs.ExplainStreams.{explanation_says}
 use Rattle.cap_session.specs.Streams.{asked_from}
@@ -26,31 +26,30 @@ use Rattle.capcheck.specs.declared.plan.Task.TheVariants.{Ask, Edit, Explain, Li
 abbrev pub turns : ℕ
 turns = 2147483648
 
--- What a task does in a profile: z is the reader of the text beside the trace, the start or the script, r that of the
--- trace, and w the writer.
-abbrev pub TaskStreams : Profile → Task → SourceState → SourceState → SourceState → SourceState → SinkState → SinkState
-    → ExplainOutcome → Type 0
-TaskStreams profile (Ask question) z0 z1 r0 r1 w0 w1 outcome =
+-- What a task does in a profile: z is the reader of the start, r that of the trace, s that of the script, and w the writer.
+abbrev pub TaskStreams : Profile → Task → SourceState → SourceState → SourceState → SourceState → SourceState → SourceState
+    → SinkState → SinkState → ExplainOutcome → Type 0
+TaskStreams profile (Ask question) z0 z1 r0 r1 s0 s1 w0 w1 outcome =
     AnswerStartStreams (asked_from question profile) turns z0 z1 r0 r1 w0 w1 outcome
-TaskStreams profile (Explain position) z0 z1 r0 r1 w0 w1 outcome =
+TaskStreams profile (Explain position) z0 z1 r0 r1 s0 s1 w0 w1 outcome =
     AnswerStartStreams (explanation_says profile position) turns z0 z1 r0 r1 w0 w1 outcome
-TaskStreams profile (Limits at) z0 z1 r0 r1 w0 w1 outcome =
+TaskStreams profile (Limits at) z0 z1 r0 r1 s0 s1 w0 w1 outcome =
     AnswerStartStreams (limits_say profile at) turns z0 z1 r0 r1 w0 w1 outcome
-TaskStreams profile Edit z0 z1 r0 r1 w0 w1 (Ended outcome) = EditStreams profile turns r0 r1 z0 z1 w0 w1 outcome
-TaskStreams profile Edit z0 z1 r0 r1 w0 w1 OutOfRange = ⊥
+TaskStreams profile Edit z0 z1 r0 r1 s0 s1 w0 w1 (Ended outcome) =
+    EditStartStreams profile turns z0 z1 r0 r1 s0 s1 w0 w1 outcome
+TaskStreams profile Edit z0 z1 r0 r1 s0 s1 w0 w1 OutOfRange = ⊥
 
--- The trace and what is beside it, in the order in which they are opened: a script after the trace, and a start before it.
-abbrev pub in_order : {A : Type 0} → Task → List A → A → List A
-in_order Edit beside trace = trace ∷ beside
-in_order _ beside trace = beside ++ (trace ∷ [])
+-- a start, a trace and a script, in the order in which they are opened
+abbrev pub in_order : {A : Type 0} → Option A → A → Option A → List A
+in_order start trace script = option_to_list start ++ (trace ∷ option_to_list script)
 
 -- the names of a run's texts, in that order
 abbrev pub names_of : NamedRun → List (Option Text)
-names_of run = in_order run.task (option_to_list run.beside) run.trace
+names_of run = in_order run.start run.trace run.script
 
--- their readers: z is that of the text beside the trace, where one is named, and r that of the trace
-abbrev pub readers_of : {R : Type 0} → NamedRun → R → R → List R
-readers_of run z r = in_order run.task (option_to_list (option_map (λ name. z) run.beside)) r
+-- their readers: z is that of the start, where one is named, r that of the trace, and s that of the script, where there is one
+abbrev pub readers_of : {R : Type 0} → NamedRun → R → R → R → List R
+readers_of run z r s = in_order (option_map (λ name. z) run.start) r (option_map (λ name. s) run.script)
 
 -- The texts of these names were opened, one after the other and each once, and these readers came of it.
 abbrev pub OpensAll : {T R : Type 0} → Opens T R → T → List (Option Text) → List R → T → Type 0
@@ -73,34 +72,41 @@ pub record Unopened (opens_until may_fail : Type 0) (w0 w1 : SinkState) (outcome
   pub silent : w1 ≡ w0
   pub fault : outcome ≡ Ended ReadFault
 
--- Two texts with these known bytes were opened, the one beside the trace as z and the trace as r. Then they were read
--- so: each from its state at first to its state at the end. Both are readers of the texts' own type R, which has
--- this state.
-pub record OpensBoth {R : Type 0} (state : R → SourceState) (opens_all : R → R → Type 0) (beside trace : Known)
-    (P : SourceState → SourceState → SourceState → SourceState → Type 0) : Type 0 where
+-- Three texts with these known bytes were opened, the start as z, the trace as r and the script as s. Then they were read
+-- so: each from its state at first to its state at the end. All are readers of the texts' own type R, which has this
+-- state.
+pub record OpensEach {R : Type 0} (state : R → SourceState) (opens_all : R → R → R → Type 0) (start trace script : Known)
+    (P : SourceState → SourceState → SourceState → SourceState → SourceState → SourceState → Type 0) : Type 0 where
   pub z0 : R
   pub z1 : R
   pub r0 : R
   pub r1 : R
-  pub opened : opens_all z0 r0
-  pub beside_text : Gives beside (state z0).bytes
+  pub s0 : R
+  pub s1 : R
+  pub opened : opens_all z0 r0 s0
+  pub start_text : Gives start (state z0).bytes
   pub trace_text : Gives trace (state r0).bytes
-  pub reads : P (state z0) (state z1) (state r0) (state r1)
+  pub script_text : Gives script (state s0).bytes
+  pub reads : P (state z0) (state z1) (state r0) (state r1) (state s0) (state s1)
 
--- What is known of the text beside the trace. Where none is named it is an empty text, which is the usual start.
-abbrev pub known_beside : (Option Text → Known) → Option (Option Text) → Known
-known_beside known None = holds []
-known_beside known (Some name) = known name
+-- What is known of a text that a run may have. Where it has none, an empty text is read, which is the usual start.
+abbrev pub known_of : (Option Text → Known) → Option (Option Text) → Known
+known_of known None = holds []
+known_of known (Some name) = known name
+
+-- one of the texts of a run may be one that can't be opened
+abbrev pub AnyMayFail : (Option Text → Known) → NamedRun → Type 0
+AnyMayFail known run =
+    MayFail (known_of known run.start) ⊎ MayFail (known run.trace) ⊎ MayFail (known_of known run.script)
 
 -- A run was carried out. Readers have this state, names are opened so, and this is known of the texts of names.
 abbrev pub RunsText : {T R : Type 0} → (R → SourceState) → Opens T R → (Option Text → Known) → NamedRun → T → T
     → SinkState → SinkState → ExplainOutcome → Type 0
 RunsText state opens known run t0 t1 w0 w1 outcome =
-    Unopened (OpensUntil opens t0 (names_of run) t1)
-    (MayFail (known_beside known run.beside) ⊎ MayFail (known run.trace)) w0 w1 outcome
-    ⊎ OpensBoth state (λ z r. OpensAll opens t0 (names_of run) (readers_of run z r) t1)
-    (known_beside known run.beside) (known run.trace)
-    (λ z0 z1 r0 r1. TaskStreams run.profile run.task z0 z1 r0 r1 w0 w1 outcome)
+    Unopened (OpensUntil opens t0 (names_of run) t1) (AnyMayFail known run) w0 w1 outcome
+    ⊎ OpensEach state (λ z r s. OpensAll opens t0 (names_of run) (readers_of run z r s) t1)
+    (known_of known run.start) (known run.trace) (known_of known run.script)
+    (λ z0 z1 r0 r1 s0 s1. TaskStreams run.profile run.task z0 z1 r0 r1 s0 s1 w0 w1 outcome)
 
 -- The whole text was written, and the status is 0; or a prefix of it was, since the writer failed, and the status is 3.
 abbrev pub Prints : List ℕ → SinkState → SinkState → ℕ → Type 0
@@ -136,8 +142,7 @@ Ends may_be state opens known t0 t1 w0 w1 status =
 abbrev pub NeverFail : {R : Type 0} → (R → SourceState) → Type 0
 NeverFail {R = R} state = (r : R) → (state r).failures ≡ 0
 
--- A read fault comes only where one of the two texts may be one that can't be opened.
+-- A read fault comes only where one of the texts may be one that can't be opened.
 abbrev pub TaskIsNoFault : {T R : Type 0} → (R → SourceState) → Opens T R → Type 0
 TaskIsNoFault {T = T} state opens = (known : Option Text → Known) (run : NamedRun) (t0 t1 : T) (w0 w1 : SinkState)
-    → RunsText state opens known run t0 t1 w0 w1 (Ended ReadFault)
-    → MayFail (known_beside known run.beside) ⊎ MayFail (known run.trace)
+    → RunsText state opens known run t0 t1 w0 w1 (Ended ReadFault) → AnyMayFail known run

@@ -95,8 +95,9 @@ done is `refused` and a code, and the trace stays as it was:
   E8        the trace has 1,000,000 lines
   E9        memory ran out
   E10       there is no such command
-A trace with a line that can't be read is refused as by `check`, and the script
-isn't read. The files are not changed. The profiles are those of `check`.
+A trace or a start with a line that can't be read is refused as by `check`, and the
+script isn't read. The files are not changed. The start and the profiles are those
+of `check`.
 
 Exit status:
   0  nothing is found in the trace as it is at the end

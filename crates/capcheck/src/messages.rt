@@ -2,7 +2,7 @@
 //! wrong. No contract reads them, and whether they can be written doesn't matter.
 ghost use Rattle.std.specs.Prelude.{◌≡◌};
 
-use crate::notes::Notes;
+use crate::notes::{Notes, SCRIPT, START};
 use crate::plan::{Run, Task};
 use crate::wrong::{Kind, Shown, wrong_in};
 use cap_session::ExplainOutcome::{self, Ended, OutOfRange};
@@ -45,7 +45,7 @@ pub fn begin(alloc: Global, notes: &Notes, run: &Run<'_>) {
     if run.verbose {
         notes.are_wanted.set(true);
     }
-    if let (Task::Edit, Some(script), true) = (&run.task, run.beside, notes.are_wanted.get())
+    if let (Some(script), true) = (run.script, notes.are_wanted.get())
         && let Ok(name) = shown_name(script).text.to_string(alloc)
     {
         let _ = notes.script.try_replace(Some(name));
@@ -54,12 +54,12 @@ pub fn begin(alloc: Global, notes: &Notes, run: &Run<'_>) {
 
 /// The text of a run that was opened or read last.
 fn name_in<'a>(notes: &Notes, run: &Run<'a>) -> Shown<'a> {
-    let is_first = notes.at.get() == 0;
-    let is_trace = is_first == matches!(run.task, Task::Edit);
-    shown_name(match run.beside {
-        Some(name) if !is_trace => name,
-        _ => run.trace,
-    })
+    let named = match notes.at.get() {
+        START => run.start,
+        SCRIPT => run.script,
+        _ => None,
+    };
+    shown_name(named.unwrap_or(run.trace))
 }
 
 /// Says why there is no report. Without a run no text was read.
@@ -191,8 +191,7 @@ fn tell_reply<R: Eprint + AllocGlobal>(rt: &R, notes: &Notes, reply: &[u8]) {
     let Ok(script) = notes.script.try_borrow() else {
         return;
     };
-    // The trace is the first text, and the script the second.
-    let (Some(script), 1) = (&*script, notes.at.get()) else {
+    let (Some(script), SCRIPT) = (&*script, notes.at.get()) else {
         return;
     };
     let position = notes.replies.get().saturating_add(1);

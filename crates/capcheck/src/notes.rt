@@ -13,11 +13,17 @@ const LONGEST_COMMENT: usize = 1056;
 /// Of a line whose end didn't come yet so many bytes are kept, more than a line may have.
 const LONGEST_BEGINNING: usize = 2048;
 
+/// The number of the start, the first text of a run. The trace is the second.
+pub const START: usize = 0;
+
+/// The number of the script, the third.
+pub const SCRIPT: usize = 2;
+
 /// The notes of a run. Of what is read something is kept only where words are wanted.
 #[derive(Drop)]
 pub struct Notes {
     pub are_wanted: Cell<bool>,
-    /// How many texts were opened, or couldn't be.
+    /// How many texts were opened, or couldn't be. One that isn't named is opened too, as an empty text.
     opened: Cell<usize>,
     /// Which of them was opened or read last. They count from 0, in the order in which they are opened.
     pub at: Cell<usize>,

@@ -6,9 +6,9 @@ ghost use Rattle.std.specs.Result.{result_ok};
 ghost use Rattle.clap.specs.Words.{FailsBy, fault_of, first_of, found_of, kind_of, rows_of, subcommand_of};
 ghost use Rattle.clap.specs.Words.{subcommand_rows_of};
 ghost use Rattle.capcheck.specs.CommandLine.{capcheck};
-ghost use Rattle.capcheck.specs.Plans.{Fits, IsRequest, NamesNone, NamesRun, TellsKind, beside_among};
-ghost use Rattle.capcheck.specs.Plans.{is_input_twice, place_among, profile_among, run_in, run_of};
-ghost use Rattle.capcheck.specs.Plans.{seen, task_in, text_among, text_named, verbose_among};
+ghost use Rattle.capcheck.specs.Plans.{Fits, IsRequest, NamesNone, NamesRun, TellsKind, is_input};
+ghost use Rattle.capcheck.specs.Plans.{is_input_twice, place_among, profile_among, run_for, run_in, run_of};
+ghost use Rattle.capcheck.specs.Plans.{script_among, seen, start_among, task_in, text_among, text_named, verbose_among};
 
 use crate::words::command;
 use cap_machine::{Profile, Question};
@@ -23,7 +23,7 @@ const NO_PROFILE: &str = "the profile is 1 or 2";
 /// What standard error says of a position that is no number, or isn't spelled as one.
 const NO_POSITION: &str = "the position is a number of 1 to 19 digits, without a leading zero";
 
-/// What standard error says where standard input is the start or the script, and the trace too.
+/// What standard error says where two texts of a run are standard input.
 const INPUT_TWICE: &str =
     "standard input can be read only once, and two of the files are standard input";
 
@@ -47,11 +47,12 @@ pub enum Task {
 /// What a run reads, how, and what for.
 #[derive(Drop)]
 pub struct Run<'a> {
+    /// The start of this name, or standard input, where one is named.
+    pub start: Option<Option<&'a str>>,
     /// The trace of this name, or standard input.
     pub trace: Option<&'a str>,
-    /// What is read beside it: the script of an edit, else the start, where one is named. It has this name, or is
-    /// standard input.
-    pub beside: Option<Option<&'a str>>,
+    /// The script of this name, or standard input. An edit alone has one.
+    pub script: Option<Option<&'a str>>,
     pub profile: Profile,
     /// Whether words on standard error were asked for.
     pub verbose: bool,
@@ -113,10 +114,17 @@ fn run_found<'a>(matches: &ArgMatches<'a>) -> Result<Run<'a>, &'static str>
     ensures { option_map run_of (result_ok result) ≡ option_and_then run_in (subcommand_rows_of matches.now) }
 {
     let (name, found) = matches.subcommand().ok_or(NO_COMMAND)?;
-    let task = task_in(name, found)?;
+    run_for(task_in(name, found)?, found)
+}
+
+/// The run that a task and the arguments name.
+fn run_for<'a>(task: Task, found: &ArgMatches<'a>) -> Result<Run<'a>, &'static str>
+    ensures { option_map run_of (result_ok result) ≡ run_for (rows_of (found_of found.now)) task }
+{
     let run = Run {
+        start: start_in(found),
         trace: text_in(found, "trace"),
-        beside: beside_in(&task, found),
+        script: script_in(&task, found),
         profile: profile_in(found)?,
         verbose: is_verbose(found),
         task,
@@ -141,23 +149,39 @@ fn task_in(name: &str, found: &ArgMatches<'_>) -> Result<Task, &'static str>
     }
 }
 
-/// Whether what is read beside the trace is standard input, and the trace too.
-fn is_input_twice(run: &Run<'_>) -> bool
-    ensures { result ≡ is_input_twice (option_map seen run.now.beside) (seen run.now.trace) }
+/// Whether a text that a run may have is standard input.
+fn is_input(text: Option<Option<&str>>) -> bool
+    ensures { result ≡ is_input (option_map seen text.entry) }
 {
-    match run.beside {
-        Some(name) => name.is_none() && run.trace.is_none(),
+    match text {
+        Some(name) => name.is_none(),
         None => false,
     }
 }
 
-/// What the arguments name beside the trace.
-fn beside_in<'a>(task: &Task, found: &ArgMatches<'a>) -> Option<Option<&'a str>>
-    ensures { option_map seen result ≡ beside_among task.now (rows_of (found_of found.now)) }
+/// Whether two texts of a run are standard input.
+fn is_input_twice(run: &Run<'_>) -> bool
+    ensures { result ≡ is_input_twice (option_map seen run.now.start) (seen run.now.trace) (option_map seen run.now.script) }
+{
+    let start = is_input(run.start);
+    let script = is_input(run.script);
+    run.trace.is_none() && (start || script) || start && script
+}
+
+/// The start that the arguments name, where they name one.
+fn start_in<'a>(found: &ArgMatches<'a>) -> Option<Option<&'a str>>
+    ensures { option_map seen result ≡ start_among (rows_of (found_of found.now)) }
+{
+    Some(text_named(value(found, "start")?))
+}
+
+/// The script that the arguments name, where a task has one.
+fn script_in<'a>(task: &Task, found: &ArgMatches<'a>) -> Option<Option<&'a str>>
+    ensures { option_map seen result ≡ script_among task.now (rows_of (found_of found.now)) }
 {
     match task {
         Task::Edit => Some(text_in(found, "script")),
-        _ => Some(text_named(value(found, "start")?)),
+        _ => None,
     }
 }
 

@@ -6,7 +6,7 @@ use cap_machine::Profile::{self, One, Two};
 use cap_machine::Question::{self, Denials, Findings};
 use std::test::Fail;
 
-/// The trace and the start of a run, its profile, and whether words are asked for. An edit has no start.
+/// The trace and the start of a run, its profile, and whether words are asked for.
 type Read = (
     Option<&'static str>,
     Option<Option<&'static str>>,
@@ -31,9 +31,6 @@ const TRACE: Read = (Some("t"), None, One, false);
 /// The trace `t` from the start `s`, with all options.
 const ALL: Read = (Some("t"), Some(Some("s")), Two, true);
 
-/// The trace `t`, with the options that `edit` has.
-const EDITED: Read = (Some("t"), None, Two, true);
-
 const NO_PROFILE: Wanted = Usage("the profile is 1 or 2");
 
 const NO_POSITION: Wanted = Usage("the position is a number of 1 to 19 digits");
@@ -42,7 +39,7 @@ const INPUT_TWICE: Wanted = Usage("standard input can be read only once");
 
 const MISTAKE: Wanted = Usage("error: ");
 
-static ROWS: [(&str, Wanted); 59] = [
+static ROWS: [(&str, Wanted); 61] = [
     ("check", Ask(Findings, (None, None, One, false))),
     ("check -", Ask(Findings, (None, None, One, false))),
     ("check t", Ask(Findings, TRACE)),
@@ -81,12 +78,17 @@ static ROWS: [(&str, Wanted); 59] = [
     ("edit t -", Edit(TRACE, None)),
     ("edit t u", Edit(TRACE, Some("u"))),
     ("edit - u", Edit((None, None, One, false), Some("u"))),
-    ("edit -v -p 2 t u", Edit(EDITED, Some("u"))),
-    ("edit t u -p 2 -v", Edit(EDITED, Some("u"))),
+    ("edit -v -s s -p 2 t u", Edit(ALL, Some("u"))),
+    ("edit t u -p 2 -s s -v", Edit(ALL, Some("u"))),
+    (
+        "edit -s - t u",
+        Edit((Some("t"), Some(None), One, false), Some("u")),
+    ),
     ("edit -", INPUT_TWICE),
     ("edit - -", INPUT_TWICE),
+    ("edit -s - t", INPUT_TWICE),
+    ("edit -s - - u", INPUT_TWICE),
     ("edit -p 3 t u", NO_PROFILE),
-    ("edit -s s t u", MISTAKE),
     ("edit", MISTAKE),
     ("edit --help", Help("Usage: capcheck edit")),
     ("explain t 7", Explain(TRACE, 7)),
@@ -113,11 +115,12 @@ static ROWS: [(&str, Wanted); 59] = [
     ("", MISTAKE),
 ];
 
-/// Whether a run reads this, and this beside the trace.
-fn reads(run: &Run<'_>, beside: &Option<Option<&'static str>>, read: &Read) -> bool {
-    let (trace, _, profile, verbose) = read;
-    run.trace == *trace
-        && run.beside == *beside
+/// Whether a run reads this, and this script.
+fn reads(run: &Run<'_>, read: &Read, script: Option<Option<&'static str>>) -> bool {
+    let (trace, start, profile, verbose) = read;
+    run.start == *start
+        && run.trace == *trace
+        && run.script == script
         && run.profile == *profile
         && run.verbose == *verbose
 }
@@ -125,10 +128,10 @@ fn reads(run: &Run<'_>, beside: &Option<Option<&'static str>>, read: &Read) -> b
 /// Whether a run is the one that is wanted.
 fn is_wanted_run(run: &Run<'_>, wanted: &Wanted) -> bool {
     match (&run.task, wanted) {
-        (Task::Ask(question), Ask(asked, read)) => question == asked && reads(run, &read.1, read),
-        (Task::Edit, Edit(read, script)) => reads(run, &Some(*script), read),
-        (Task::Explain(position), Explain(read, at)) => position == at && reads(run, &read.1, read),
-        (Task::Limits(at), Limits(read, before)) => at == before && reads(run, &read.1, read),
+        (Task::Ask(question), Ask(asked, read)) => question == asked && reads(run, read, None),
+        (Task::Edit, Edit(read, script)) => reads(run, read, Some(*script)),
+        (Task::Explain(position), Explain(read, at)) => position == at && reads(run, read, None),
+        (Task::Limits(at), Limits(read, before)) => at == before && reads(run, read, None),
         _ => false,
     }
 }

@@ -12,8 +12,8 @@ ghost use Rattle.cap_session.specs.Outcome.{explain_status_of};
 ghost use Rattle.cap_session.specs.StartTexts.{start as start_said};
 ghost use Rattle.capcheck.specs.Faults.{fault_code};
 ghost use Rattle.capcheck.specs.Plans.{run_of, seen};
-ghost use Rattle.capcheck.specs.Runs.{CarriesOut, Ends, Finishes, NeverFail, OpensAll, OpensUntil, Prints};
-ghost use Rattle.capcheck.specs.Runs.{RunsText, TaskIsNoFault, TaskStreams, known_beside, names_of, readers_of};
+ghost use Rattle.capcheck.specs.Runs.{AnyMayFail, CarriesOut, Ends, Finishes, NeverFail, OpensAll, OpensUntil, Prints};
+ghost use Rattle.capcheck.specs.Runs.{RunsText, TaskIsNoFault, TaskStreams, known_of, names_of, readers_of};
 ghost use Rattle.capcheck.specs.Texts.{Gives, MayFail};
 
 use crate::messages::{begin, tell};
@@ -25,7 +25,7 @@ use crate::write::write_text;
 use cap_machine::Question;
 use cap_session::ExplainOutcome::{self, Ended};
 use cap_session::{
-    Failed, Outcome, Sink, Source, check_stream_from_as, denials_stream, edit_stream_as,
+    Failed, Outcome, Sink, Source, check_stream_from_as, denials_stream, edit_stream_from_as,
     explain_stream, limits_stream,
 };
 use std::alloc::{AllocError, Global};
@@ -173,48 +173,60 @@ pub fn no_fault_of_readers_that_never_fail<T: Texts>()
     ensures { NeverFail T.Reader.state → TaskIsNoFault T.Reader.state T.opens }
 {}
 
-/// Opens the text beside the trace. Where none is named that is a text without any bytes, which is the usual start.
-fn open_beside<T: Texts>(texts: &mut T, beside: Option<Option<&str>>) -> Result<T::Reader, Failed>
-    ensures opened { IfOk result (λ z. let names = option_map seen beside.entry in OpensAll T.opens texts.old
+/// The readers of the texts of a run.
+#[derive(Drop)]
+pub struct Readers<R: Drop> {
+    start: R,
+    trace: R,
+    script: R,
+}
+
+/// Opens a text that a run may have. Where it has none that is a text without any bytes, which is the usual start.
+fn open_any<T: Texts>(texts: &mut T, text: Option<Option<&str>>) -> Result<T::Reader, Failed>
+    ensures opened { IfOk result (λ z. let names = option_map seen text.entry in OpensAll T.opens texts.old
         (option_to_list names) (option_to_list (option_map (λ name. z) names)) texts.new) }
-    ensures until { IfErr result (λ _. OpensUntil T.opens texts.old (option_to_list (option_map seen beside.entry))
+    ensures until { IfErr result (λ _. OpensUntil T.opens texts.old (option_to_list (option_map seen text.entry))
         texts.new) }
     ensures text { IfOk result
-        (λ z. Gives (known_beside (T.known texts.old) (option_map seen beside.entry)) (T.Reader.state z).bytes) }
+        (λ z. Gives (known_of (T.known texts.old) (option_map seen text.entry)) (T.Reader.state z).bytes) }
     ensures room { IfOk result (λ z. 2 ^ 32 ≤ (T.Reader.state z).room) }
-    ensures fails { IfErr result (λ _. MayFail (known_beside (T.known texts.old) (option_map seen beside.entry))) }
+    ensures fails { IfErr result (λ _. MayFail (known_of (T.known texts.old) (option_map seen text.entry))) }
     ensures same { T.known texts.new ≡ T.known texts.old }
 {
-    match beside {
+    match text {
         Some(name) => texts.open(name),
         None => Ok(texts.empty()),
     }
 }
 
-/// Opens the text beside the trace, and the trace, each once: the start before the trace, and a script after it.
-fn open_both<T: Texts>(texts: &mut T, run: &Run<'_>) -> Result<(T::Reader, T::Reader), Failed>
+/// Opens the start, the trace and the script, in this order and each once.
+fn open_all<T: Texts>(texts: &mut T, run: &Run<'_>) -> Result<Readers<T::Reader>, Failed>
     ensures opened { IfOk result (λ r. OpensAll T.opens texts.old (names_of (run_of run.now))
-        (readers_of (run_of run.now) r.0 r.1) texts.new) }
+        (readers_of (run_of run.now) r.start r.trace r.script) texts.new) }
     ensures until { IfErr result (λ _. OpensUntil T.opens texts.old (names_of (run_of run.now)) texts.new) }
-    ensures beside { IfOk result (λ r. Gives
-        (known_beside (T.known texts.old) (option_map seen run.now.beside)) (T.Reader.state r.0).bytes) }
-    ensures trace { IfOk result (λ r. Gives (T.known texts.old (seen run.now.trace)) (T.Reader.state r.1).bytes) }
-    ensures beside_room { IfOk result (λ r. 2 ^ 32 ≤ (T.Reader.state r.0).room) }
-    ensures trace_room { IfOk result (λ r. 2 ^ 32 ≤ (T.Reader.state r.1).room) }
-    ensures fails { IfErr result (λ _. MayFail (known_beside (T.known texts.old) (option_map seen run.now.beside))
-        ⊎ MayFail (T.known texts.old (seen run.now.trace))) }
+    ensures start { IfOk result
+        (λ r. Gives (known_of (T.known texts.old) (run_of run.now).start) (T.Reader.state r.start).bytes) }
+    ensures trace { IfOk result (λ r. Gives (T.known texts.old (run_of run.now).trace) (T.Reader.state r.trace).bytes) }
+    ensures script { IfOk result
+        (λ r. Gives (known_of (T.known texts.old) (run_of run.now).script) (T.Reader.state r.script).bytes) }
+    ensures start_room { IfOk result (λ r. 2 ^ 32 ≤ (T.Reader.state r.start).room) }
+    ensures trace_room { IfOk result (λ r. 2 ^ 32 ≤ (T.Reader.state r.trace).room) }
+    ensures script_room { IfOk result (λ r. 2 ^ 32 ≤ (T.Reader.state r.script).room) }
+    ensures fails { IfErr result (λ _. AnyMayFail (T.known texts.old) (run_of run.now)) }
 {
-    if let Task::Edit = run.task {
-        let trace = texts.open(run.trace)?;
-        return Ok((open_beside(texts, run.beside)?, trace));
-    }
-    let start = open_beside(texts, run.beside)?;
-    Ok((start, texts.open(run.trace)?))
+    let start = open_any(texts, run.start)?;
+    let trace = texts.open(run.trace)?;
+    let script = open_any(texts, run.script)?;
+    Ok(Readers {
+        start,
+        trace,
+        script,
+    })
 }
 
-/// Opens both texts, and then does what a run is for.
+/// Opens the texts, and then does what a run is for.
 ///
-/// Both are opened before either is read. No stream is buffered here: a piece is read by one system call, and the report is
+/// All are opened before any is read. No stream is buffered here: a piece is read by one system call, and the report is
 /// written by one where the system takes it whole.
 pub fn perform<T: Texts, W: Sink>(
     alloc: Global,
@@ -226,40 +238,48 @@ pub fn perform<T: Texts, W: Sink>(
     ensures { RunsText T.Reader.state T.opens (T.known texts.old) (run_of run.now) texts.old texts.new
         (W.state output.old) (W.state output.new) result }
 {
-    match open_both(texts, run) {
-        Ok((mut other, mut trace)) => do_task(alloc, run, &mut other, &mut trace, output),
+    match open_all(texts, run) {
+        Ok(mut readers) => do_task(alloc, run, &mut readers, output),
         Err(Failed) => Ended(Outcome::ReadFault),
     }
 }
 
 /// Does what a run is for, in its profile, and writes the answer, the reply to each line of a script before the next is
 /// looked at, or why there is none.
-fn do_task<R: Source, W: Sink>(
+fn do_task<R: Source + Drop, W: Sink>(
     alloc: Global,
     run: &Run<'_>,
-    other: &mut R,
-    trace: &mut R,
+    readers: &mut Readers<R>,
     output: &mut W,
 ) -> ExplainOutcome
-    requires beside { 2 ^ 32 ≤ (R.state other.old).room }
-    requires trace { 2 ^ 32 ≤ (R.state trace.old).room }
+    requires start { 2 ^ 32 ≤ (R.state readers.old.start).room }
+    requires trace { 2 ^ 32 ≤ (R.state readers.old.trace).room }
+    requires script { 2 ^ 32 ≤ (R.state readers.old.script).room }
     requires writes { 1 ≤ (W.state output.old).room }
-    ensures { TaskStreams run.now.profile run.now.task (R.state other.old) (R.state other.new)
-        (R.state trace.old) (R.state trace.new) (W.state output.old) (W.state output.new) result }
+    ensures { TaskStreams run.now.profile run.now.task (R.state readers.old.start) (R.state readers.new.start)
+        (R.state readers.old.trace) (R.state readers.new.trace) (R.state readers.old.script) (R.state readers.new.script)
+        (W.state output.old) (W.state output.new) result }
 {
     let profile = run.profile;
+    let Readers {
+        start,
+        trace,
+        script,
+    } = readers;
     match run.task {
         Task::Ask(Question::Findings) => Ended(check_stream_from_as(
-            alloc, profile, TURNS, other, trace, output,
+            alloc, profile, TURNS, start, trace, output,
         )),
         Task::Ask(Question::Denials) => Ended(denials_stream(
-            alloc, profile, TURNS, other, trace, output,
+            alloc, profile, TURNS, start, trace, output,
         )),
-        Task::Edit => Ended(edit_stream_as(alloc, profile, TURNS, trace, other, output)),
+        Task::Edit => Ended(edit_stream_from_as(
+            alloc, profile, TURNS, start, trace, script, output,
+        )),
         Task::Explain(position) => {
-            explain_stream(alloc, profile, TURNS, position, other, trace, output)
+            explain_stream(alloc, profile, TURNS, position, start, trace, output)
         }
-        Task::Limits(at) => limits_stream(alloc, profile, TURNS, at, other, trace, output),
+        Task::Limits(at) => limits_stream(alloc, profile, TURNS, at, start, trace, output),
     }
 }
 

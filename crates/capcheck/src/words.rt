@@ -87,7 +87,7 @@ fn file_command<'a>(
         .arg(word_arg(alloc, "trace", "FILE", help).required(true))
 }
 
-/// `edit FILE [SCRIPT]`, with the options.
+/// `edit FILE [SCRIPT]`, with `--start` and the options.
 fn edit_command<'a>(alloc: Global) -> Result<Command<'a>, AllocError>
     ensures shape { IfOk result (λ c. shape_of c ≡ edit_words.top) }
     ensures local { IfOk result (λ c. (out-Command c).has_globals ≡ false) }
@@ -97,7 +97,7 @@ fn edit_command<'a>(alloc: Global) -> Result<Command<'a>, AllocError>
     let command = file_command(alloc, "edit", about, help::EDIT)?.arg(word_arg(
         alloc, "script", "SCRIPT", help,
     ))?;
-    with_options(alloc, command)
+    with_start(alloc, command)
 }
 
 /// `explain FILE K`, with `--start` and the options.

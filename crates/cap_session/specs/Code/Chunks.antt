@@ -31,8 +31,8 @@ EndedText {A = A} next before holds given result = (start : A) → before start
 
 -- These bytes of a script were replied to. Before and after them this is known.
 pub record TookScript (before after : Scripting) (w0 w1 : SinkState) (given : List ℕ) : Type 0 where
-  pub profile : after.profile ≡ before.profile
-  pub replied : Replied before.profile before.state w0 w1 (script_lines [] given) after.state
+  pub setting : after.setting ≡ before.setting
+  pub replied : Replied before.setting before.state w0 w1 (script_lines [] given) after.state
   pub held : after.held ≡ take most_held (last_piece [] given)
   pub failure : w1.room ≡ w0.room
 
@@ -40,12 +40,12 @@ pub record TookScript (before after : Scripting) (w0 w1 : SinkState) (given : Li
 pub record StoppedScript (before after : Scripting) (w0 w1 : SinkState) (given : List ℕ)
     (stop : StopReason) : Type 0 where
   pub is : stop ≡ WriteFault
-  pub profile : after.profile ≡ before.profile
-  pub broken : Broken before.profile before.state w0 w1 (script_lines [] given)
+  pub setting : after.setting ≡ before.setting
+  pub broken : Broken before.setting before.state w0 w1 (script_lines [] given)
 
 -- The script ended after these bytes, and all its lines were replied to, or the writer failed in that.
 pub record EndedScript (before after : Scripting) (w0 w1 : SinkState) (given : List ℕ)
     (result : Result (Unit {0}) StopReason) : Type 0 where
-  pub profile : after.profile ≡ before.profile
-  pub replied : OnOk result (Replied before.profile before.state w0 w1 (lines given) after.state)
-  pub broken : IfErr result (λ stop. (stop ≡ WriteFault) × Broken before.profile before.state w0 w1 (lines given))
+  pub setting : after.setting ≡ before.setting
+  pub replied : OnOk result (Replied before.setting before.state w0 w1 (lines given) after.state)
+  pub broken : IfErr result (λ stop. (stop ≡ WriteFault) × Broken before.setting before.state w0 w1 (lines given))

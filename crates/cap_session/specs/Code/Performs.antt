@@ -1,7 +1,7 @@
 -- What each part of the code of a script's session does. Only the code's contracts use this; Scripts says what a script
 -- is replied to.
 use Rattle.std.specs.Prelude.{◌≡◌, List, ℕ, Result, Ok, Err, IsOk, IsTrue, ◌⊎◌, Option, None, Some}
-use Rattle.cap_machine.specs.declared.cell.Profile.{Profile}
+use Rattle.cap_session.specs.declared.session.Setting.{Setting}
 use Rattle.cap_session.specs.Commands.{Asked, show_line, count_lines, report_all, report_lines, tell_changes, unknown, edit_asked}
 use Rattle.cap_session.specs.Replies.{Done, ScriptState, commanded, may_run_out}
 use Rattle.cap_session.specs.Scripts.{Does}
@@ -37,7 +37,7 @@ abbrev pub state_of : SessionState → ScriptState
 state_of session = record { trace = session.trace; base = session.base }
 
 -- A command was done and has its reply, or it is refused, or memory ran out for it. The script's state goes from t to u.
-abbrev pub Performs : Profile → ScriptState → Asked → Result Reply Refused → ScriptState → Type 0
-Performs profile t ask (Ok reply) u = (done : Done) × (commanded profile t ask ≡ Ok done) × Does t done (text_of reply) u
-Performs profile t ask (Err why) u = (u ≡ t) × ((commanded profile t ask ≡ Err (code_of why))
-    ⊎ ((why ≡ Memory) × IsOk (commanded profile t ask) × IsTrue (may_run_out ask)))
+abbrev pub Performs : Setting → ScriptState → Asked → Result Reply Refused → ScriptState → Type 0
+Performs setting t ask (Ok reply) u = (done : Done) × (commanded setting t ask ≡ Ok done) × Does t done (text_of reply) u
+Performs setting t ask (Err why) u = (u ≡ t) × ((commanded setting t ask ≡ Err (code_of why))
+    ⊎ ((why ≡ Memory) × IsOk (commanded setting t ask) × IsTrue (may_run_out ask)))

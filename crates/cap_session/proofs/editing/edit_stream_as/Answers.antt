@@ -1,34 +1,10 @@
-use Rattle.std.proofs.Common.{◌∙◌, refl, inl}
-use Rattle.cap_machine.specs.declared.cell.Profile.{Profile}
-use Rattle.cap_machine.specs.declared.question.Question.TheVariants.{Findings}
-use Rattle.cap_machine.specs.State.{usual}
-use Rattle.cap_session.specs.AnswerStreams.{of_trace}
-use Rattle.cap_session.specs.Code.Traced.{Setting}
-use Rattle.cap_session.proofs.AnswersTrace.{nothing_read, not_loaded, first_rejected}
-use Rattle.cap_session.proofs.Rejecting.{script_taken}
+use Rattle.std.proofs.Common.{List, subst}
+use Rattle.cap_machine.specs.State.{Added}
+use Rattle.cap_session.specs.EditStreams.{EditStreams}
 use Rattle.cap_session.proofs.editing.edit_stream_as.Goals as goal
 
-abbrev under : Profile → Setting
-under profile = record { question = Findings; profile = profile; start = usual }
-
-pub returns-in-Ok-read_trace : goal.returns-in-Ok-read_trace
-returns-in-Ok-read_trace g c =
-    let session = c.in-Ok-session.session in
-    script_taken _ _ _ _ _ _ _ _ _ c.in-Ok-read_trace.loading session.profile session.trace _
-    (c.in-Ok-read_trace.ensures (under c.args.profile) c.new-empty.ensures)
-    (λ known is. (c.in-Ok-session.ensures.profile ∙ is.0, c.in-Ok-session.ensures.trace ∙ is.1))
-    (rw c.in-Ok-session.ensures.base at c.edit_loaded.ensures)
-
 pub returns : goal.returns
-returns g c = inl (first_rejected of_trace _ _ _ _ _ _ _ c.in-Err.stop _
-    (c.in-Err.ensures (under c.args.profile) c.new-empty.ensures) c.write_stop.ensures)
-
-pub returns-in_default : goal.returns-in_default
-returns-in_default g c = inl (record { stopped = nothing_read _ _ _ _; unread = refl })
-
-pub returns-in_default-new : goal.returns-in_default-new
-returns-in_default-new g c = inl (record { stopped = nothing_read _ _ _ _; unread = refl })
-
-pub returns-in_default-session : goal.returns-in_default-session
-returns-in_default-session g c = inl (not_loaded _ _ _ _ _ _ c.in-Ok-read_trace.loading
-    (c.in-Ok-read_trace.ensures (under c.args.profile) c.new-empty.ensures))
+returns g c = subst (λ (start : List Added). EditStreams (record { profile = c.args.profile; start = start }) c.args.turns
+    (g.T.Source.state c.args.trace.now) (g.T.Source.state c.edit_from.new.trace) (g.S.Source.state c.args.script.now)
+    (g.S.Source.state c.edit_from.new.script) (g.W.Sink.state c.args.writer.now) (g.W.Sink.state c.edit_from.new.writer)
+    c.edit_from.result) c.unknown-start.ensures.empty c.edit_from.ensures

@@ -7,5 +7,5 @@ read_chunks-requires-clause-begins g c = script_begins c.args.script.now _ c.req
 pub returns-clause-all : goal.returns-clause-all
 returns-clause-all g c = all_replied _ _ _ _ c.args.turns _ _ c.read_chunks.result c.read_chunks.ensures
 
-pub returns-clause-profile : goal.returns-clause-profile
-returns-clause-profile g c = all_stays _ _ _ _ c.args.turns _ _ c.read_chunks.result c.read_chunks.ensures
+pub returns-clause-setting : goal.returns-clause-setting
+returns-clause-setting g c = all_stays _ _ _ _ c.args.turns _ _ c.read_chunks.result c.read_chunks.ensures

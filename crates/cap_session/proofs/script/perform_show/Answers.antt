@@ -8,6 +8,6 @@ use Rattle.cap_session.proofs.script.perform_show.Goals as goal
 
 pub returns : goal.returns
 returns c =
-    shown_is c.args.session.now.profile (state_of c.args.session.now) (show_line c.args.position) line_feed
+    shown_is c.args.session.now.setting (state_of c.args.session.now) (show_line c.args.position) line_feed
     c.in_ok-text.text.items (shown c.args.session.now.trace c.args.position) (Long c.push.new.self) refl
     c.in_ok-text.ensures.text c.in_ok-push.ensures.items

@@ -11,7 +11,7 @@ returns-in_err-line-clause-err g c =
 
 pub loop-line-preserved : goal.loop-line-preserved
 loop-line-preserved g c = scripted_on _ _ _ _ _ _ _ _ c.in-Some.line.now _ c.loop-line.invariant c.in-Some.ensures
-    c.in_ok-line.ensures.ok c.in_ok-line.ensures.profile c.in_ok-line.ensures.held
+    c.in_ok-line.ensures.ok c.in_ok-line.ensures.setting c.in_ok-line.ensures.held
 
 pub returns-clause-ok : goal.returns-clause-ok
 returns-clause-ok g c =

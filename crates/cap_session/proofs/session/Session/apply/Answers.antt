@@ -15,7 +15,7 @@ loop-edit-preserved c =
     let ask = c.edit-answer.ensures in
     let pushed = rw c.unwrap.ensures at c.push.ensures.items in
     record {
-      made = rw pushed (made_next _ _ _ _ _ _ _ _ c.loop-edit.invariant.made c.loop-edit-test.true ask.limit ask.profile
+      made = rw pushed (made_next _ _ _ _ _ _ _ _ c.loop-edit.invariant.made c.loop-edit-test.true ask.limit ask.setting
           (does _ _ _ _ ask.accepted ask.refused ask.memory ask.unchanged));
       counted = rw pushed (counted_next _ _ _ _ _ _ c.loop-edit.invariant.counted ask.accepted ask.joins ask.unchanged);
       room = search rules;

@@ -7,7 +7,7 @@ use Rattle.cap_session.proofs.session.Session.load.Goals as goal
 
 pub load_steps-requires-clause-in_profile : goal.load_steps-requires-clause-in_profile
 load_steps-requires-clause-in_profile c =
-    subst (λ (s : SessionState). IsIn s.profile (values c.in_ok-steps.steps.items)) c.self.view_is
+    subst (λ (s : SessionState). IsIn s.setting.profile (values c.in_ok-steps.steps.items)) c.self.view_is
     (is_in _ _ _ c.in_ok-steps.ensures)
 
 pub returns-clause-accepted : goal.returns-clause-accepted

@@ -26,14 +26,14 @@ pub take_over-requires-clause-last : goal.take_over-requires-clause-last
 take_over-requires-clause-last c = elim c.match-take.branch [
   | in-Some w ↦
       let old = last_of _ _ _ w.in-Some.last (sym w.in-Some.ensures.value) c.self.invariant.report in
-      subst (λ (o : Option LastReport). IfSome o (IsLast c.self.inside.profile c.in_ok-tree.tree)) (sym w.last-is)
-      (of_edited c.self.inside.profile c.self.inside.tree c.in_ok-tree.tree w.in-Some.last
+      subst (λ (o : Option LastReport). IfSome o (IsLast c.self.inside.setting c.in_ok-tree.tree)) (sym w.last-is)
+      (of_edited c.self.inside.setting c.self.inside.tree c.in_ok-tree.tree w.in-Some.last
       (λ origins. remove origins c.args.at) w.removed-last.result old
       (subst (λ (l : List Step). AllZip (StoodThere w.in-Some.last.tree) (remove w.in-Some.last.origins c.args.at) l)
       (sym c.in_ok-tree.ensures.list) (zip_remove (StoodThere w.in-Some.last.tree) _ _ c.args.at old.stood))
       w.removed-last.ensures.trace w.removed-last.ensures.found w.removed-last.ensures.origins)
   | in-None w ↦
-      subst (λ (o : Option LastReport). IfSome o (IsLast c.self.inside.profile c.in_ok-tree.tree)) (sym w.last-is) tt
+      subst (λ (o : Option LastReport). IfSome o (IsLast c.self.inside.setting c.in_ok-tree.tree)) (sym w.last-is) tt
 ]
 
 pub returns-clause-trace : goal.returns-clause-trace
