@@ -21,6 +21,9 @@ ifdef :
 .error This Makefile is for GNU make: run gmake, or make where that is GNU make.
 endif
 
+# No file is made by a rule that isn't here, as a program from the object beside it.
+MAKEFLAGS += --no-builtin-rules
+
 RT ?= rt
 TRACE = examples/filter.trace
 PREFIX ?= /usr/local
