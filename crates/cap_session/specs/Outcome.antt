@@ -1,5 +1,5 @@
 -- The exit status of an outcome, and the faults that it answers.
-use Rattle.std.specs.Prelude.{ℕ, Bool, true, false}
+use Rattle.std.specs.Prelude.{ℕ, Bool, true, false, Option, None, Some}
 use Rattle.cap_session.specs.Refused.{code_of}
 use Rattle.cap_session.specs.declared.refused.Input.{Input}
 use Rattle.cap_session.specs.declared.refused.Input.TheVariants as inputs
@@ -10,6 +10,9 @@ use Rattle.cap_session.specs.declared.outcome.Outcome.{Outcome}
 use Rattle.cap_session.specs.declared.outcome.Outcome.TheVariants.{Clean, Findings, Refused, StartRefused, Memory}
 use Rattle.cap_session.specs.declared.outcome.Outcome.TheVariants.{ReadFault, WriteFault, TooLong}
 use Rattle.cap_session.specs.declared.outcome.ExplainOutcome.{ExplainOutcome}
+use Rattle.cap_session.specs.declared.start_text.StartFault.{StartFault}
+use Rattle.cap_session.specs.declared.start_text.StartFault.TheVariants as faults
+use Rattle.cap_session.specs.declared.start_text.StartFault.TheVariants.{Bad}
 use Rattle.cap_session.specs.declared.outcome.ExplainOutcome.TheVariants.{Ended, OutOfRange}
 
 abbrev pub status_of : Outcome → ℕ
@@ -21,6 +24,22 @@ status_of Memory = 3
 status_of ReadFault = 3
 status_of WriteFault = 3
 status_of TooLong = 3
+
+-- the code that an outcome has
+abbrev pub code_in : Outcome → Option ℕ
+code_in (Refused code line) = Some code
+code_in (StartRefused code line) = Some code
+code_in Clean = None
+code_in Findings = None
+code_in Memory = None
+code_in ReadFault = None
+code_in WriteFault = None
+code_in TooLong = None
+
+-- the code that the fault of a start text has
+abbrev pub fault_code : StartFault → Option ℕ
+fault_code (Bad code line) = Some code
+fault_code faults.Memory = None
 
 -- how a call ends that refused a line
 abbrev pub refused_as : Input → Refusal → Outcome

@@ -1,7 +1,6 @@
 //! The limits of what is read and kept.
 
-/// A line of a trace or of a start has at most so many bytes, its LF not counted.
-pub const LONGEST_LINE: usize = 1_024;
+pub use cap_trace::LONGEST_LINE;
 
 /// A line of a script has at most so many bytes, its LF not counted.
 pub const LONGEST_SCRIPT_LINE: usize = 1_056;

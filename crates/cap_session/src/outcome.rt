@@ -1,10 +1,11 @@
 //! How a stream call ends: clean, with findings, refused, or at a fault; one that explains a line also where there is no
 //! such line; and the exit status of each.
-ghost use Rattle.std.specs.Prelude.{◌≡◌};
-ghost use Rattle.cap_session.specs.Outcome.{status_of, explain_status_of, found, outcome_of, refused_as};
+ghost use Rattle.std.specs.Prelude.{◌≡◌, ◌≤◌, ◌⊎◌, IfSome, None, Some};
+ghost use Rattle.cap_session.specs.Outcome.{status_of, explain_status_of, found, outcome_of, refused_as, code_in};
+ghost use Rattle.cap_session.specs.Refused.{code_of};
 
 use crate::lines::StopReason;
-use crate::refused::{Input, Refusal};
+use crate::refused::{Input, Refusal, Refused};
 
 /// How a stream call ends.
 #[derive(Clone, Copy, Debug, PartialEq, Eq)]
@@ -71,6 +72,19 @@ impl Outcome {
         match input {
             Input::Start => Outcome::StartRefused { code, line },
             Input::Trace => Outcome::Refused { code, line },
+        }
+    }
+
+    /// Why a line was refused, where one was and its code is that of a refusal; the outcome of a stream call has no other.
+    pub fn refusal(&self) -> Option<Refused>
+        ensures code { IfSome result (λ refused. code_in self.now ≡ Some (code_of refused)) }
+        ensures none { result ≡ None → IfSome (code_in self.now) (λ code. (code ≡ 0) ⊎ (10 ≤ code)) }
+    {
+        match self {
+            Outcome::Refused { code, .. } | Outcome::StartRefused { code, .. } => {
+                Refused::of_code(*code)
+            }
+            _ => None,
         }
     }
 

@@ -1,5 +1,5 @@
 //! Why a session refuses what is asked of it.
-ghost use Rattle.std.specs.Prelude.{◌≡◌};
+ghost use Rattle.std.specs.Prelude.{◌≡◌, ◌≤◌, ◌⊎◌, IfSome, None};
 ghost use Rattle.cap_session.specs.Refused.{code_of, refused_line};
 ghost use Rattle.cap_session.specs.declared.refused.Refused.TheVariants.{Memory};
 
@@ -70,6 +70,25 @@ impl Refused {
             Refused::Position => 7,
             Refused::Full => 8,
             Refused::Memory => 9,
+        }
+    }
+
+    /// The refusal with this number, by [`code`](Refused::code); `None` where there is none.
+    pub fn of_code(code: u8) -> Option<Refused>
+        ensures code { IfSome result (λ refused. code_of refused ≡ code) }
+        ensures none { result ≡ None → (code ≡ 0) ⊎ (10 ≤ code) }
+    {
+        match code {
+            1 => Some(Refused::LongLine),
+            2 => Some(Refused::Shape),
+            3 => Some(Refused::Pid),
+            4 => Some(Refused::Argument),
+            5 => Some(Refused::Right),
+            6 => Some(Refused::Answer),
+            7 => Some(Refused::Position),
+            8 => Some(Refused::Full),
+            9 => Some(Refused::Memory),
+            _ => None,
         }
     }
 }

@@ -1,11 +1,13 @@
 //! Start texts: what was known of each process before a trace, read line by line ([`parse_start`], `read_start`).
 ghost use Rattle.std.specs.Prelude.{◌≡◌, ◌↔◌, ◌+◌, ◌^◌, ◌<◌, ◌≤◌, List, [], ◌∷◌, ◌++◌, Ok, Err, IfOk, IfErr, OnOk};
-ghost use Rattle.std.specs.Prelude.{IsOk};
+ghost use Rattle.std.specs.Prelude.{◌⊎◌, IfSome, IsOk, None, Some};
 ghost use Rattle.std.specs.List.{All};
 ghost use Rattle.cap_trace.specs.Entry.{IsFd};
 ghost use Rattle.cap_trace.specs.Limits.{largest_pid};
 ghost use Rattle.cap_machine.specs.State.{Added, start_state};
+ghost use Rattle.cap_session.specs.Outcome.{fault_code};
 ghost use Rattle.cap_session.specs.Reads.{Reads};
+ghost use Rattle.cap_session.specs.Refused.{code_of};
 ghost use Rattle.cap_session.specs.StartTexts.{Listed, none_listed, next_process, cells_from, start as start_said};
 ghost use Rattle.cap_session.specs.StartTexts.{described_by, start_so_far};
 ghost use Rattle.cap_session.specs.Code.StartLines.{StandsFor, Follows, Holds, Adds, TakesNumbered};
@@ -35,6 +37,19 @@ pub enum StartFault {
     /// Every line is good, and there was no memory to keep them.
     #[error("out of memory")]
     Memory,
+}
+
+impl StartFault {
+    /// Why a line was refused, where one was and its code is that of a refusal; what [`parse_start`] answers has no other.
+    pub fn refusal(&self) -> Option<Refused>
+        ensures code { IfSome result (λ refused. fault_code self.now ≡ Some (code_of refused)) }
+        ensures none { result ≡ None → IfSome (fault_code self.now) (λ code. (code ≡ 0) ⊎ (10 ≤ code)) }
+    {
+        match self {
+            StartFault::Bad { code, .. } => Refused::of_code(*code),
+            StartFault::Memory => None,
+        }
+    }
 }
 
 impl From<Refusal> for StartFault {

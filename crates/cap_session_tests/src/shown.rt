@@ -1,9 +1,9 @@
-//! The texts of what is refused.
+//! The texts of what is refused, and the refusals of codes.
 
-use cap_session::{Refused, StartFault};
+use cap_session::{Outcome, Refused, StartFault};
 use std::alloc::Global;
 
-/// Each reason why a session refuses, and its text.
+/// Each reason why a session refuses, by its code from 1, and its text.
 static REFUSALS: [(Refused, &str); 9] = [
     (Refused::LongLine, "the line is longer than 1,024 bytes"),
     (Refused::Shape, "the line has no known shape"),
@@ -29,6 +29,25 @@ fn a_refusal_has_a_text(rt: HostRuntime) {
     for (refused, text) in &REFUSALS {
         assert!(rt; is_shown(rt.alloc(), *refused, text));
     }
+}
+
+/// Whether all that answer this code, or none, have this refusal.
+fn all_have(code: u8, refused: Option<Refused>) -> bool {
+    Outcome::Refused { code, line: 7 }.refusal() == refused
+        && Outcome::StartRefused { code, line: 7 }.refusal() == refused
+        && StartFault::Bad { code, line: 7 }.refusal() == refused
+}
+
+#[test]
+fn a_code_has_its_refusal(rt: HostRuntime) {
+    let mut code = 0;
+    assert!(rt; all_have(code, None));
+    for (refused, _) in &REFUSALS {
+        code += 1;
+        assert!(rt; all_have(code, Some(*refused)));
+    }
+    assert!(rt; all_have(10, None));
+    assert!(rt; Outcome::Findings.refusal() == None && StartFault::Memory.refusal() == None);
 }
 
 /// Whether a fault of a start text is printed so.

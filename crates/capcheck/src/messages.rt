@@ -6,7 +6,7 @@ use crate::notes::{Notes, SCRIPT, START};
 use crate::plan::{Run, Task};
 use crate::wrong::{Kind, Shown, wrong_in};
 use cap_session::ExplainOutcome::{self, Ended, OutOfRange};
-use cap_session::{Outcome, number_of};
+use cap_session::{Outcome, Refused, number_of};
 use std::alloc::Global;
 use std::io::Write;
 use std::{fmt, io};
@@ -118,7 +118,7 @@ fn tell_line<R: Eprint + AllocGlobal>(
     let Ok(recent) = notes.recent.try_borrow() else {
         return Ok(());
     };
-    let wrong = wrong_in(rt.alloc(), kind, recent.line(line), code);
+    let wrong = wrong_in(rt.alloc(), kind, recent.line(line), Refused::of_code(code));
     eprintln!(rt; "capcheck: {name}:{line}: E{code}: {wrong}")
 }
 

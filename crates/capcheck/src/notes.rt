@@ -2,13 +2,11 @@
 //! there, and the last error of a device. No contract reads it.
 ghost use Rattle.std.specs.Prelude.{◌≡◌};
 
+use cap_session::LONGEST_SCRIPT_LINE;
 use std::alloc::Global;
 use std::cell::{Cell, RefCell};
 use std::io;
 use std::io::Read;
-
-/// A line that is longer is none of a trace or of a script, and is answered also where it is a comment.
-const LONGEST_COMMENT: usize = 1056;
 
 /// Of a line whose end didn't come yet so many bytes are kept, more than a line may have.
 const LONGEST_BEGINNING: usize = 2048;
@@ -98,9 +96,9 @@ impl Tally {
         positions: 0,
     };
 
-    /// With this line.
+    /// With this line. A comment that is longer than any line is answered, as any other line.
     fn and(self, line: &[u8]) -> Tally {
-        let is_comment = line.starts_with(b"#") && line.len() <= LONGEST_COMMENT;
+        let is_comment = line.starts_with(b"#") && line.len() <= LONGEST_SCRIPT_LINE;
         let is_skipped = line.is_empty() || is_comment;
         Tally {
             lines: self.lines.saturating_add(1),

@@ -5,16 +5,13 @@
 //! of those that are given.
 
 use cap_rights::parse_rights;
-use cap_session::number_of;
-use cap_trace::{LineFault, parse_line};
+use cap_session::{LONGEST_SCRIPT_LINE, Refused, number_of};
+use cap_trace::{LARGEST_FD, LARGEST_PID, LineFault, parse_line};
 use std::alloc::{AllocError, Global};
 use std::{fmt, mem};
 
 /// So many characters of a line are shown.
 const MOST_SHOWN: usize = 60;
-
-/// So many bytes a command of a script may have.
-const LONGEST_COMMAND: usize = 1056;
 
 /// What is wrong with a word in the place of a pid.
 const NO_PID: &str = "is not a pid, a number from 1 to 99999 without a leading zero";
@@ -88,68 +85,84 @@ pub enum Kind {
     Script,
 }
 
-/// What is wrong with a line that is refused with this code, where it is known.
-pub fn wrong_in<'a>(alloc: Global, kind: Kind, line: Option<&'a [u8]>, code: u8) -> Wrong<'a> {
+/// What is wrong with a line that is refused so, or is no command, where it is known.
+pub fn wrong_in<'a>(
+    alloc: Global,
+    kind: Kind,
+    line: Option<&'a [u8]>,
+    refused: Option<Refused>,
+) -> Wrong<'a> {
     match line {
-        Some(line) => wrong_line(alloc, kind, line, code).unwrap_or(general(code)),
-        None => general(code),
+        Some(line) => wrong_line(alloc, kind, line, refused).unwrap_or(general(refused)),
+        None => general(refused),
     }
 }
 
 /// What is wrong with the line, where that can be found out.
-fn wrong_line<'a>(alloc: Global, kind: Kind, line: &'a [u8], code: u8) -> Option<Wrong<'a>> {
+fn wrong_line<'a>(
+    alloc: Global,
+    kind: Kind,
+    line: &'a [u8],
+    refused: Option<Refused>,
+) -> Option<Wrong<'a>> {
     if let Some(wrong) = wrong_bytes(line) {
         return Some(wrong);
     }
     let line = std::str::from_utf8(line).ok()?;
     match kind {
-        Kind::Trace => wrong_entry(alloc, line, code),
-        Kind::Start if code != 1 => check_start(line, code).err(),
-        Kind::Start => None,
-        Kind::Script => wrong_command(alloc, line, code),
+        Kind::Trace => wrong_entry(alloc, line, refused?),
+        Kind::Start if refused == Some(Refused::LongLine) => None,
+        Kind::Start => check_start(line, refused?).err(),
+        Kind::Script => wrong_command(alloc, line, refused),
     }
 }
 
 /// What is wrong with a line of a trace.
-fn wrong_entry<'a>(alloc: Global, line: &'a str, code: u8) -> Option<Wrong<'a>> {
-    match code {
-        2 => Some(wrong_shape(line)),
-        3 => Some(wrong_pid(line)),
-        4 => wrong_argument(alloc, line),
-        5 => wrong_right(line),
-        6 => wrong_result(line),
-        _ => None,
+fn wrong_entry<'a>(alloc: Global, line: &'a str, refused: Refused) -> Option<Wrong<'a>> {
+    match refused {
+        Refused::Shape => Some(wrong_shape(line)),
+        Refused::Pid => Some(wrong_pid(line)),
+        Refused::Argument => wrong_argument(alloc, line),
+        Refused::Right => wrong_right(line),
+        Refused::Answer => wrong_result(line),
+        Refused::LongLine | Refused::Position | Refused::Full | Refused::Memory => None,
     }
 }
 
 /// What is wrong with a command of a script: mostly the line in it, after two words.
-fn wrong_command<'a>(alloc: Global, command: &'a str, code: u8) -> Option<Wrong<'a>> {
-    if code == 1 && command.len() > LONGEST_COMMAND {
-        return Some(Wrong::Reason("the command has more than 1,056 bytes"));
-    }
-    if code == 10 {
+fn wrong_command<'a>(
+    alloc: Global,
+    command: &'a str,
+    refused: Option<Refused>,
+) -> Option<Wrong<'a>> {
+    let Some(refused) = refused else {
         return Some(Wrong::Is(command, "is not a command"));
+    };
+    if command.len() > LONGEST_SCRIPT_LINE {
+        return Some(Wrong::Reason("the command has more than 1,056 bytes"));
     }
     let line = command.splitn(3, ' ').nth(2)?;
     match wrong_bytes(line.as_bytes()) {
         Some(wrong) => Some(wrong),
-        None => wrong_entry(alloc, line, code),
+        None => wrong_entry(alloc, line, refused),
     }
 }
 
-/// What a code means.
-fn general<'a>(code: u8) -> Wrong<'a> {
-    Wrong::Reason(match code {
-        1 => "the line has more than 1,024 bytes",
-        2 => "the line is neither PID NAME(ARGUMENTS) RET RESULT nor PID @NAME(ARGUMENTS)",
-        3 => "no pid at the start of the line",
-        4 => "an argument is wrong, or their number",
-        5 => "a right is wrong",
-        6 => "the result is none that the call can have",
-        7 => "there is no such position",
-        8 => "a trace has at most 1,000,000 lines",
-        10 => "there is no such command",
-        _ => "memory ran out",
+/// What a refusal means.
+fn general<'a>(refused: Option<Refused>) -> Wrong<'a> {
+    let Some(refused) = refused else {
+        return Wrong::Reason("there is no such command");
+    };
+    Wrong::Reason(match refused {
+        Refused::LongLine => "the line has more than 1,024 bytes",
+        Refused::Shape => "the line is neither PID NAME(ARGUMENTS) RET RESULT nor PID @NAME(ARGUMENTS)",
+        Refused::Pid => "no pid at the start of the line",
+        Refused::Argument => "an argument is wrong, or their number",
+        Refused::Right => "a right is wrong",
+        Refused::Answer => "the result is none that the call can have",
+        Refused::Position => "there is no such position",
+        Refused::Full => "a trace has at most 1,000,000 lines",
+        Refused::Memory => "memory ran out",
     })
 }
 
@@ -367,13 +380,13 @@ fn kind_of(fitting: &str) -> &'static str {
 }
 
 /// Looks for the first field of a line of a start that is wrong, which is the error.
-fn check_start<'a>(line: &'a str, code: u8) -> Result<(), Wrong<'a>> {
+fn check_start<'a>(line: &'a str, refused: Refused) -> Result<(), Wrong<'a>> {
     let mut words = line.split(' ');
     let pid = words.next().unwrap_or(line);
-    if matches!(number_to(99_999, pid), None | Some(0)) {
+    if matches!(number_to(LARGEST_PID as usize, pid), None | Some(0)) {
         return Err(Wrong::Is(pid, NO_PID));
     }
-    if code == 3 {
+    if refused == Refused::Pid {
         return Err(Wrong::Is(pid, "is not above the pid before it"));
     }
     let mode = words
@@ -414,7 +427,7 @@ fn listed<'a>(word: &'a str, last: Option<usize>) -> Result<usize, Wrong<'a>> {
     let (fd, state) = word
         .split_once('=')
         .ok_or(Wrong::Is(word, "is not a descriptor, = and what it is"))?;
-    let number = number_to(1_048_575, fd).ok_or(Wrong::Is(fd, "is not a descriptor"))?;
+    let number = number_to(LARGEST_FD as usize, fd).ok_or(Wrong::Is(fd, "is not a descriptor"))?;
     if last.is_some_and(|last| number <= last) {
         return Err(Wrong::Is(fd, "is not above the descriptor before it"));
     }
