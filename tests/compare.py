@@ -93,7 +93,7 @@ MOST_SHOWN = 50_000  # bytes of a text that is told where a case fails
 RUNS_OF_48, EDITS = 62, 40  # of a long trace; of its script
 NO_LINES = ("", " ", "# note", "100", "100 @start() ", "100  @exit()", " 100 @exit()")
 WRONG = (
-    "undo", "insert", "replace", "delete", "show", "counts", "report 1", "report 1 ", "changes 1", "changes ", "Count", " count", "show\t1", "\r",
+    "undo", "insert", "replace", "delete", "show", "counts", "report 1", "report 1 ", "changes 1", "changes ", "explain", "explain 1 2", "denials 1", "limits ", "limits x", "Count", " count", "show\t1", "\r",
     "\x00", "\xff",
 )  # fmt: skip
 START_WORDS = (
@@ -327,7 +327,8 @@ class Maker:
         if kind < 0.75:
             return f"report {self.number(lines)} {self.number(lines)}"
         if kind < 0.95:
-            return self.choice(("count", "report", "changes", "changes") if kind < 0.9 else WRONG)
+            asks = "count", "report", "changes", "changes", "denials", "limits", f"limits {self.number(lines)}"
+            return self.choice((*asks, *[f"explain {self.number(lines)}"] * 2) if kind < 0.9 else WRONG)
         return self.choice(("", "# note", "#", self.choice("#x") * self.choice(LENGTHS)))
 
     def spoiled(self, command):
@@ -344,7 +345,7 @@ class Maker:
             at, to = self.choice((1, 2, self.random.randrange(len(lines)) + 1)), self.random.randrange(len(lines)) + 1
             back, line = self.choice((at, at, to)), lines[at - 1]
             part = f"report {min(at, to)} {max(at, to) - 1}"
-            commands += [f"delete {at}", self.choice(("report", part, "count", "changes")), f"insert {back} {line}", "report"]
+            commands += [f"delete {at}", self.choice(("report", part, "count", "changes", f"explain {to}", "denials")), f"insert {back} {line}", "report"]
             commands += ["changes"] * self.chance(0.3)
             commands += [f"replace {to} {line}", self.choice(("report", "changes", part))] if self.chance(0.3) else []
         return commands

@@ -750,13 +750,32 @@ def by_line(found):
     return lines
 
 
-def reply(trace, line, profile, known, last):
-    """The reply to a line of a script, from a start that was read. The trace is a list, which edits change, and so do they what is kept
-    of the last report."""
+def said(trace, line, profile, start):
+    """The reply to a line of a script that asks what `explain`, `denials` or `limits` print, or None. Its last line counts: the lines
+    of chains, the denials, or the lines that are put in."""
+    text, words = "".join(f"{it}\n" for it in trace), re.fullmatch(f"(explain|limits) {NUMBER}|(denials|limits)", line)
+    if not words:
+        return None
+    asked = [int(words[2])] if words[2] else []
+    out, _ = {"explain": explained, "denials": denials, "limits": limits}[words[1] or words[3]](text, *asked, profile=profile, start=start)
+    if out == "refused E7\n":
+        raise Refused(7)
+    counted = {"explain": ("explained", r"^(?:\d+|mode) .*\n"), "limits": ("limits", "^insert ")}.get(words[1] or words[3])
+    if counted:
+        out += f"{counted[0]} {len(re.findall(counted[1], out, re.M)) - (counted[0] == 'explained')}\n"
+    return out
+
+
+def reply(trace, line, profile, start, last):
+    """The reply to a line of a script, from a start, which is a text. The trace is a list, which edits change, and so do they what is
+    kept of the last report."""
     if len(line) > 1056:
         raise Refused(1)
     if line == "count":
         return f"{len(trace)}\n"
+    if (told := said(trace, line, profile, start)) is not None:
+        return told
+    known = load_start(start)[0]
     if line in ("report", "changes"):
         found = findings(trace, profile, known)
         told = report(found) if line == "report" else last.changes(found)
@@ -795,7 +814,7 @@ def replies(text, script, profile=1, start=""):
         if len(line) <= 1056 and is_skipped(line):
             continue
         try:
-            out.append(reply(trace, line, profile, known, last))
+            out.append(reply(trace, line, profile, start, last))
         except Refused as fault:
             out.append(f"refused E{fault.args[0]}\n")
     return "".join(out), 1 if findings(trace, profile, known) else 0
@@ -807,7 +826,7 @@ def edited(trace, script, found):
     kept.keep(found, len(trace))
     for line in lines_of(script):
         if not is_skipped(line):
-            reply(trace, line, 1, None, kept)
+            reply(trace, line, 1, "", kept)
     return trace, kept
 
 

@@ -59,6 +59,26 @@ static REPLIES: [(Outcome, &[u8]); 3] = [
     (Outcome::Clean, b"ok 4\nrefused E9\n"),
 ];
 
+/// A script that asks, and changes nothing.
+const ASKS: &[u8] = b"explain 5\ndenials\nlimits\n";
+
+/// What may be written to it.
+static ANSWERS: [(Outcome, &[u8]); 4] = [
+    (
+        Outcome::Findings,
+        b"5 101 write(3) RET 1\nmissing 3 CAP_WRITE\n3 3 100 fork() RET 101\n3 2 100 cap_rights_limit(3,CAP_READ) RET 0\n3 1 100 @start(0,3)\nexplained 3\ndenials 0\nlimits 0\n",
+    ),
+    (Outcome::Findings, b"refused E9\ndenials 0\nlimits 0\n"),
+    (
+        Outcome::Findings,
+        b"5 101 write(3) RET 1\nmissing 3 CAP_WRITE\n3 3 100 fork() RET 101\n3 2 100 cap_rights_limit(3,CAP_READ) RET 0\n3 1 100 @start(0,3)\nexplained 3\nrefused E9\nlimits 0\n",
+    ),
+    (
+        Outcome::Findings,
+        b"5 101 write(3) RET 1\nmissing 3 CAP_WRITE\n3 3 100 fork() RET 101\n3 2 100 cap_rights_limit(3,CAP_READ) RET 0\n3 1 100 @start(0,3)\nexplained 3\ndenials 0\nrefused E9\n",
+    ),
+];
+
 /// What the last line of the trace rests on.
 const EXPLAINED: &[u8] =
     b"5 101 write(3) RET 1\nmissing 3 CAP_WRITE\n3 3 100 fork() RET 101\n3 2 100 cap_rights_limit(3,CAP_READ) RET 0\n3 1 100 @start(0,3)\n";
@@ -73,6 +93,7 @@ enum Call {
     Edit,
     EditAs,
     EditFrom,
+    EditAsking,
     Denials,
     Limits,
     LimitsBefore,
@@ -100,7 +121,7 @@ fn made(
         Call::CheckFrom => check_stream_from(alloc, 4096, start, trace, kept),
         Call::CheckFromAs => check_stream_from_as(alloc, two, 4096, start, trace, kept),
         Call::Edit => edit_stream(alloc, 4096, trace, script, kept),
-        Call::EditAs => edit_stream_as(alloc, two, 4096, trace, script, kept),
+        Call::EditAs | Call::EditAsking => { edit_stream_as(alloc, two, 4096, trace, script, kept) }
         Call::EditFrom => edit_stream_from_as(alloc, two, 4096, start, trace, script, kept),
         Call::Denials => denials_stream(alloc, two, 4096, start, trace, kept),
         Call::Limits => return limits_stream(alloc, two, 4096, None, start, trace, kept),
@@ -119,11 +140,27 @@ fn trace_of(call: Call) -> &'static [u8] {
     }
 }
 
+/// The script of a call.
+fn script_of(call: Call) -> &'static [u8] {
+    match call {
+        Call::EditAsking => ASKS,
+        _ => SCRIPT,
+    }
+}
+
+/// What may be written to the script of a call, first with memory for all.
+fn replies_of(call: Call) -> &'static [(Outcome, &'static [u8])] {
+    match call {
+        Call::EditAsking => &ANSWERS,
+        _ => &REPLIES,
+    }
+}
+
 /// The outcome of a call, and what it wrote.
 fn streamed(alloc: Global, call: Call) -> (ExplainOutcome, Kept) {
     let mut trace = Pieces::new(trace_of(call), 64, 0);
     let mut start = Pieces::new(START, 64, 0);
-    let mut script = Pieces::new(SCRIPT, 64, 0);
+    let mut script = Pieces::new(script_of(call), 64, 0);
     let mut kept = Kept::new(64, 256);
     let outcome = made(alloc, call, &mut trace, &mut start, &mut script, &mut kept);
     (outcome, kept)
@@ -194,8 +231,8 @@ fn explain_stream_refused(rt: HostRuntime) -> Result<(), Fail> {
 }
 
 /// Whether this may be replied where memory runs out: one of the replies, or nothing after one of them.
-fn may_be_replied(ended: ExplainOutcome, written: &[u8]) -> bool {
-    for (outcome, text) in &REPLIES {
+fn may_be_replied(call: Call, ended: ExplainOutcome, written: &[u8]) -> bool {
+    for (outcome, text) in replies_of(call) {
         if *text == written && (ended == Ended(*outcome) || ended == Ended(Outcome::Memory)) {
             return true;
         }
@@ -208,12 +245,13 @@ fn may_be_replied(ended: ExplainOutcome, written: &[u8]) -> bool {
 fn replies(alloc: Global, call: Call) -> bool {
     Mark::Begin.set(alloc);
     let (outcome, kept) = streamed(alloc, call);
-    let is_first = outcome == Ended(REPLIES[0].0) && kept.text() == REPLIES[0].1;
-    let may_be = !lacked(alloc, !is_first) || may_be_replied(outcome, kept.text());
-    may_be && gives(alloc, call, Outcome::Clean, REPLIES[0].1)
+    let right = replies_of(call)[0];
+    let is_first = outcome == Ended(right.0) && kept.text() == right.1;
+    let may_be = !lacked(alloc, !is_first) || may_be_replied(call, outcome, kept.text());
+    may_be && gives(alloc, call, right.0, right.1)
 }
 
-static EDITS: [Call; 3] = [Call::Edit, Call::EditAs, Call::EditFrom];
+static EDITS: [Call; 4] = [Call::Edit, Call::EditAs, Call::EditFrom, Call::EditAsking];
 
 #[test]
 fn edit_streams_refused(rt: HostRuntime) -> Result<(), Fail> {

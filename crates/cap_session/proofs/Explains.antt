@@ -3,7 +3,7 @@
 use Rattle.std.proofs.Common.{◌≡◌, ℕ, ◌+◌, ◌-◌, ◌<◌, ◌≤◌, ◌==◌, ◌&&◌, nat_le, Bool, true, false, if◌then◌else◌}
 use Rattle.std.proofs.Common.{List, [], ◌∷◌, ◌++◌, length, map, reverse, Some, None, refl, sym, ap, ◌∙◌, subst, arith}
 use Rattle.std.proofs.Common.{length-append, append_assoc, get_or}
-use Rattle.std.specs.Prelude.{Option, Err, IsTrue, ◌↔◌}
+use Rattle.std.specs.Prelude.{Option, Ok, Err, IsTrue, ◌↔◌}
 use Rattle.std.specs.List.{All, filter, slice_get}
 use Rattle.std.specs.Option.{option_map}
 use Rattle.std.proofs.lemmas.Bool.{eqb-true}
@@ -35,9 +35,11 @@ use Rattle.cap_machine.specs.Steps.{step, steps}
 use Rattle.cap_machine.specs.Touch.{Touch, kept, given, taken, touch, Turn, stays, turns, follows, turn}
 use Rattle.cap_session.specs.Code.Explained.{AnyModeStands, CellStands, FitsLine, IsAt, ModeStands}
 use Rattle.cap_session.specs.Edits.{is_position}
-use Rattle.cap_session.specs.Explaining.{explained_line, IsClean, text_or_refusal, checks_at, checks_of}
+use Rattle.cap_session.specs.Explaining.{chain_lines, explained_line, explained_links, IsClean, links_or_refusal}
+use Rattle.cap_session.specs.Explaining.{text_or_refusal, checks_at, checks_of}
 use Rattle.cap_session.specs.Laws.{ExplainsWhatIsReported}
-use Rattle.cap_session.specs.Replies.{lies_in}
+use Rattle.cap_session.specs.Shown.{lies_in}
+use Rattle.cap_session.specs.Trace.{counted_lines}
 use Rattle.cap_session.specs.declared.refused.Refused.TheVariants.{Position}
 
 -- ---- links stand at positions of the history
@@ -330,6 +332,13 @@ is_clean s profile trace k found e b said is clean =
     ((λ yes. same ∙ ap (map (found_at k)) (clean.0 yes)), (λ none. clean.1 (none_at k e.verdict (sym same ∙ none))))
 
 -- ---- one of the chains
+
+pub links_are : (s : State) (profile : Profile) (trace : List Entry) (k : ℕ) (found : Option Explanation)
+    (e : Explanation) (links : ℕ) → option_map explained_by found ≡ explanation s (steps profile trace) k
+    → found ≡ Some e → links ≡ counted_lines (chain_lines trace k (explained_by e))
+    → explained_links s profile trace k ≡ Ok links
+links_are s profile trace k found e links said is counted =
+    ap (links_or_refusal trace k) (sym said ∙ ap (option_map explained_by) is) ∙ ap Ok (sym counted)
 
 pub all_stand : (n : ℕ) (provenances : List CellProvenance) → All (CellStands n) (map cell_chain_of provenances)
     → All (λ (provenance : CellProvenance). CellStands n (cell_chain_of provenance)) provenances

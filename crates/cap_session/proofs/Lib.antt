@@ -3,6 +3,7 @@ pub mod Agree
 pub mod Answering
 pub mod Applied
 pub mod Calls
+pub mod Counting
 pub mod Cuts
 pub mod NextEntry
 pub mod Explains

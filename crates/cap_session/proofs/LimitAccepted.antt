@@ -15,7 +15,7 @@ use Rattle.cap_limits.specs.declared.limits.Entering.{Entering}
 use Rattle.cap_limits.specs.declared.limits.Entering.TheVariants.{Inside, Blocked, May}
 use Rattle.cap_limits.specs.declared.makers.MakerRow.{MakerRow}
 use Rattle.cap_limits.specs.declared.makers.MakerRow.TheVariants as made
-use Rattle.cap_session.specs.Replies.{refused_text}
+use Rattle.cap_session.specs.Refusal.{refused_text}
 use Rattle.cap_session.specs.LimitScripts.{ScriptLine, comment, insertion, insertions, limit_line, makers_script}
 use Rattle.cap_session.specs.LimitScripts.{entering_line, unknown_lines, beginning_script}
 use Rattle.cap_session.specs.LimitScriptLaws.{Accepts, ok_text, all_ok, with_script, IsNamed}

@@ -36,7 +36,7 @@ use Rattle.cap_session.specs.Commands.{Asked, asked}
 use Rattle.cap_session.specs.Edits.{inserted, is_position}
 use Rattle.cap_session.specs.Limits.{most_lines}
 use Rattle.cap_session.specs.Lines.{lines}
-use Rattle.cap_session.specs.Replies.{refused_text}
+use Rattle.cap_session.specs.Refusal.{refused_text}
 use Rattle.cap_session.specs.Replies.{ScriptState, begun}
 use Rattle.cap_session.specs.Scripts.{Answers, Commands, Run}
 use Rattle.cap_session.specs.Trace.{is_skipped}

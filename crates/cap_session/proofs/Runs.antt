@@ -15,7 +15,7 @@ use Rattle.cap_session.specs.Scripts.{due_line, due_piece, Scripting}
 use Rattle.cap_session.specs.Replies.{ScriptState}
 use Rattle.cap_session.specs.declared.session.Setting.{Setting}
 use Rattle.cap_session.specs.Commands.{asked}
-use Rattle.cap_session.specs.Replies.{refused_text}
+use Rattle.cap_session.specs.Refusal.{refused_text}
 use Rattle.cap_session.proofs.Cuts.{Cut, NoCut, cut_at, no_cut}
 use Rattle.cap_session.proofs.Calls.{appends_more, appends_none}
 

@@ -1,7 +1,7 @@
 -- What the lines of any script do, by the edits among them.
 use Rattle.std.proofs.Common.{◌≡◌, ℕ, List, [], ◌∷◌, ◌++◌, length, Bool, true, false, refl, sym, ap, ◌∙◌, append_assoc}
 use Rattle.std.proofs.Common.{subst, inl, inr, suc}
-use Rattle.std.specs.Prelude.{codes, nat_lt, Result, Ok, Err, ◌⊎◌}
+use Rattle.std.specs.Prelude.{codes, nat_lt, if◌then◌else◌, Option, Result, Ok, Err, ◌⊎◌}
 use Rattle.cap_trace.specs.Entry.{Entry}
 use Rattle.cap_session.specs.declared.session.Setting.{Setting}
 use Rattle.cap_session.specs.declared.edit.Edit.{Edit}
@@ -9,9 +9,12 @@ use Rattle.cap_session.specs.declared.edit.Edit.TheVariants.{Insert, Delete, Rep
 use Rattle.cap_session.specs.declared.refused.Refused.{Refused}
 use Rattle.cap_session.specs.Edits.{edited, trace_after, after}
 use Rattle.cap_session.specs.Commands.{Asked, asked, insert_line, replace_line, delete_line, show_line, count_lines}
-use Rattle.cap_session.specs.Commands.{report_all, report_lines, tell_changes, unknown, edit_asked}
+use Rattle.cap_session.specs.Commands.{report_all, report_lines, tell_changes, explain_line, tell_denials, tell_limits}
+use Rattle.cap_session.specs.Commands.{unknown, edit_asked}
 use Rattle.cap_session.specs.Trace.{is_skipped}
-use Rattle.cap_session.specs.Replies.{ScriptState, shown_done, shown, ranged, line_feed}
+use Rattle.cap_session.specs.Refusal.{line_feed}
+use Rattle.cap_session.specs.Replies.{ScriptState, explained_with_links, has_place, limits_of, shown_done, stays}
+use Rattle.cap_session.specs.Shown.{shown, ranged}
 use Rattle.cap_session.specs.Limits.{most_lines}
 use Rattle.cap_session.specs.Scripts.{RepliesTo, Commands, Answers, Run}
 use Rattle.cap_session.specs.ScriptLaws.{Asks, AsksNone, AreEditsOf, LeavesEdits, ScriptLeavesWhatEditsGive}
@@ -30,6 +33,12 @@ shown_keeps : (t u : ScriptState) (end text : List ℕ) (r : Result (List ℕ) R
     → RepliesTo t (shown_done t.trace end r) text u → u.trace ≡ t.trace
 shown_keeps t u end text (Ok shown) is = is.trace
 shown_keeps t u end text (Err e) is = same_trace t u is.1
+
+limits_keep : (setting : Setting) (t u : ScriptState) (at : Option ℕ) (text : List ℕ) (place : Bool)
+    → RepliesTo t (if place then Ok (record { reply = limits_of setting t.trace at; trace = t.trace; keeping = stays })
+    else Err 7) text u → u.trace ≡ t.trace
+limits_keep setting t u at text true is = is.trace
+limits_keep setting t u at text false is = same_trace t u is.1
 
 is_edit : Asked → Bool
 is_edit (insert_line k line) = true
@@ -71,6 +80,18 @@ edit_or_not setting tell_changes = inr (passes setting tell_changes refl (λ t u
 ]))
 edit_or_not setting (report_lines a b) = inr (passes setting (report_lines a b) refl (λ t u text is. elim is [
   | inl seen ↦ shown_keeps t u [] text (ranged setting t.trace a b) seen
+  | inr ran_out ↦ same_trace t u ran_out.3
+]))
+edit_or_not setting (explain_line k) = inr (passes setting (explain_line k) refl (λ t u text is. elim is [
+  | inl seen ↦ shown_keeps t u [] text (explained_with_links setting t.trace k) seen
+  | inr ran_out ↦ same_trace t u ran_out.3
+]))
+edit_or_not setting tell_denials = inr (passes setting tell_denials refl (λ t u text is. elim is [
+  | inl seen ↦ seen.trace
+  | inr ran_out ↦ same_trace t u ran_out.3
+]))
+edit_or_not setting (tell_limits at) = inr (passes setting (tell_limits at) refl (λ t u text is. elim is [
+  | inl seen ↦ limits_keep setting t u at text (has_place at (length t.trace)) seen
   | inr ran_out ↦ same_trace t u ran_out.3
 ]))
 edit_or_not setting unknown = inr (passes setting unknown refl (λ t u text is. elim is [

@@ -9,7 +9,8 @@ use Rattle.cap_session.specs.declared.edit.Edit.{Edit}
 use Rattle.cap_session.specs.declared.refused.Refused.{Refused}
 use Rattle.cap_session.specs.Edits.{edited, trace_after, answer, after, answers}
 use Rattle.cap_session.specs.Commands.{Asked, first_word, after_word, edit_asked}
-use Rattle.cap_session.specs.Replies.{Done, ScriptState, edit_done, refused_text}
+use Rattle.cap_session.specs.Refusal.{refused_text}
+use Rattle.cap_session.specs.Replies.{Done, ScriptState, edit_done}
 use Rattle.cap_session.specs.Origins.{Base, origins_after}
 use Rattle.cap_session.specs.Limits.{most_lines}
 use Rattle.cap_session.specs.Scripts.{RepliesTo, Commands, Answers}

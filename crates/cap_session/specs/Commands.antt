@@ -19,6 +19,12 @@ pub data Asked : Type 0 where
   report_lines : ℕ → ℕ → Asked
   -- `changes`
   tell_changes : Asked
+  -- `explain K`
+  explain_line : ℕ → Asked
+  -- `denials`
+  tell_denials : Asked
+  -- `limits`, and `limits K`
+  tell_limits : Option ℕ → Asked
   -- any other line
   unknown : Asked
 
@@ -67,6 +73,17 @@ asked_alone word =
     if bytes_eq word (codes "count") then count_lines
     else if bytes_eq word (codes "report") then report_all
     else if bytes_eq word (codes "changes") then tell_changes
+    else if bytes_eq word (codes "denials") then tell_denials
+    else if bytes_eq word (codes "limits") then tell_limits None
+    else unknown
+
+-- a word with a number alone
+abbrev pub asked_at : List ℕ → ℕ → Asked
+asked_at word k =
+    if bytes_eq word (codes "delete") then delete_line k
+    else if bytes_eq word (codes "show") then show_line k
+    else if bytes_eq word (codes "explain") then explain_line k
+    else if bytes_eq word (codes "limits") then tell_limits (Some k)
     else unknown
 
 -- a word, and what follows the space after it
@@ -74,10 +91,8 @@ abbrev pub asked_with : List ℕ → List ℕ → Asked
 asked_with word rest =
     if bytes_eq word (codes "insert") then with_line (position (first_word rest)) (after_word rest) insert_line
     else if bytes_eq word (codes "replace") then with_line (position (first_word rest)) (after_word rest) replace_line
-    else if bytes_eq word (codes "delete") then with_number (position rest) delete_line
-    else if bytes_eq word (codes "show") then with_number (position rest) show_line
     else if bytes_eq word (codes "report") then with_range (position (first_word rest)) (after_word rest)
-    else unknown
+    else with_number (position rest) (asked_at word)
 
 abbrev pub asked_of : List ℕ → Option (List ℕ) → Asked
 asked_of word None = asked_alone word

@@ -5,7 +5,7 @@ use Rattle.cap_machine.specs.declared.cell.Profile.{Profile}
 use Rattle.cap_machine.specs.State.{State, Added, start_state}
 use Rattle.cap_session.specs.AnswerStreams.{Says}
 use Rattle.cap_session.specs.Explaining.{explained_line, IsClean}
-use Rattle.cap_session.specs.Replies.{refused_text}
+use Rattle.cap_session.specs.Refusal.{refused_text}
 use Rattle.cap_session.specs.declared.refused.Refused.TheVariants.{Position}
 use Rattle.cap_session.specs.declared.outcome.Outcome.TheVariants as outcomes
 use Rattle.cap_session.specs.declared.outcome.ExplainOutcome.TheVariants.{Ended, OutOfRange}

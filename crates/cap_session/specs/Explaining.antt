@@ -34,7 +34,8 @@ use Rattle.cap_machine.specs.Report.{finding_words, line_of_words}
 use Rattle.cap_machine.specs.Rule.{requirement}
 use Rattle.cap_machine.specs.State.{State}
 use Rattle.cap_machine.specs.Steps.{steps}
-use Rattle.cap_session.specs.Replies.{found_in}
+use Rattle.cap_session.specs.Shown.{found_in}
+use Rattle.cap_session.specs.Trace.{counted_lines}
 use Rattle.cap_session.specs.declared.refused.Refused.{Refused}
 use Rattle.cap_session.specs.declared.refused.Refused.TheVariants.{Position}
 
@@ -120,11 +121,17 @@ abbrev pub any_mode_lines : List Entry → Option ModeChain → List ℕ
 any_mode_lines trace None = []
 any_mode_lines trace (Some chain) = mode_lines trace chain
 
+-- the line at a position, and what is said of it
+abbrev pub said_lines : List Entry → ℕ → Explained → List ℕ
+said_lines trace k e = numbered trace k ++ finding_lines e.findings ++ denial_lines e.denials
+
+-- the lines that this rests on
+abbrev pub chain_lines : List Entry → ℕ → Explained → List ℕ
+chain_lines trace k e = all_cell_lines trace (checks_at trace k) e.cells ++ any_mode_lines trace e.mode
+
 -- the text of what the line at a position rests on
 abbrev pub explained_text : List Entry → ℕ → Explained → List ℕ
-explained_text trace k e =
-    numbered trace k ++ finding_lines e.findings ++ denial_lines e.denials
-    ++ all_cell_lines trace (checks_at trace k) e.cells ++ any_mode_lines trace e.mode
+explained_text trace k e = said_lines trace k e ++ chain_lines trace k e
 
 abbrev pub text_or_refusal : List Entry → ℕ → Option Explained → Result (List ℕ) Refused
 text_or_refusal trace k None = Err Position
@@ -133,6 +140,14 @@ text_or_refusal trace k (Some e) = Ok (explained_text trace k e)
 -- under a start and in a profile: the text of line k of a trace, or that it has no such line
 abbrev pub explained_line : State → Profile → List Entry → ℕ → Result (List ℕ) Refused
 explained_line s profile trace k = text_or_refusal trace k (explanation s (steps profile trace) k)
+
+-- and how many lines that one rests on
+abbrev pub links_or_refusal : List Entry → ℕ → Option Explained → Result ℕ Refused
+links_or_refusal trace k None = Err Position
+links_or_refusal trace k (Some e) = Ok (counted_lines (chain_lines trace k e))
+
+abbrev pub explained_links : State → Profile → List Entry → ℕ → Result ℕ Refused
+explained_links s profile trace k = links_or_refusal trace k (explanation s (steps profile trace) k)
 
 -- line k has no finding in the check of the whole trace
 abbrev pub IsClean : State → Profile → List Entry → ℕ → Type 0

@@ -14,7 +14,7 @@ use Rattle.cap_session.specs.Trace.{trace, trace_so_far}
 use Rattle.cap_session.specs.Reads.{IsEnded}
 use Rattle.cap_session.specs.Outcome.{refused_as}
 use Rattle.cap_session.specs.Refusal.{refusal_text}
-use Rattle.cap_session.specs.Replies.{found_in}
+use Rattle.cap_session.specs.Shown.{found_in}
 use Rattle.cap_session.specs.AnswerStreams.{IsPrefix}
 use Rattle.cap_session.specs.Streams.{AskedStreams}
 use Rattle.cap_session.specs.declared.refused.Input.TheVariants.{Trace}

@@ -25,6 +25,7 @@ pub mod ScriptLaws
 pub mod Scripts
 pub mod Session
 pub mod Settings
+pub mod Shown
 pub mod StartTexts
 pub mod StartWords
 pub mod Streams

@@ -5,7 +5,7 @@ use Rattle.cap_trace.specs.Entry.{Entry}
 use Rattle.cap_trace.specs.Reading.{line_of}
 use Rattle.cap_session.specs.Limits.{most_lines}
 use Rattle.cap_session.specs.LimitScripts.{ScriptLine, comment, insertion}
-use Rattle.cap_session.specs.Replies.{refused_text, line_feed}
+use Rattle.cap_session.specs.Refusal.{refused_text, line_feed}
 use Rattle.cap_trace.specs.Spelling.{canon}
 
 -- ---- what a script does to a trace

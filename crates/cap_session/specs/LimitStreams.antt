@@ -13,7 +13,7 @@ use Rattle.cap_machine.specs.State.{Added, start_state}
 use Rattle.cap_machine.specs.Steps.{steps}
 use Rattle.cap_session.specs.AnswerStreams.{Says}
 use Rattle.cap_session.specs.LimitScripts.{ScriptLine, script_text, makers_script, process_script, beginning_script}
-use Rattle.cap_session.specs.Replies.{refused_text}
+use Rattle.cap_session.specs.Refusal.{refused_text}
 use Rattle.cap_session.specs.declared.outcome.Outcome.TheVariants as outcomes
 use Rattle.cap_session.specs.declared.outcome.ExplainOutcome.TheVariants.{Ended, OutOfRange}
 

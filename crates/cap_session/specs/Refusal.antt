@@ -1,4 +1,4 @@
--- The text of a refused line.
+-- The text of a refused line, and of a refused command.
 use Rattle.std.specs.Prelude.{ℕ, List, ◌++◌, codes, decimal}
 use Rattle.cap_session.specs.Refused.{code_of}
 use Rattle.cap_session.specs.declared.refused.Input.{Input}
@@ -14,3 +14,10 @@ input_words Trace = codes " line "
 -- its text
 unfoldable pub refusal_text : Input → Refusal → List ℕ
 refusal_text input e = codes "refused E" ++ decimal (code_of e.reason) ++ input_words input ++ decimal e.line ++ codes "\n"
+
+abbrev pub line_feed : List ℕ
+line_feed = codes "\n"
+
+-- `refused E7` and LF
+abbrev pub refused_text : ℕ → List ℕ
+refused_text code = codes "refused E" ++ decimal code ++ line_feed

@@ -10,7 +10,8 @@ use Rattle.cap_session.specs.Trace.{is_skipped}
 use Rattle.cap_session.specs.Refused.{code_of}
 use Rattle.cap_session.specs.Edits.{after, answers}
 use Rattle.cap_session.specs.Commands.{asked, edit_asked}
-use Rattle.cap_session.specs.Replies.{ScriptState, refused_text, line_feed}
+use Rattle.cap_session.specs.Refusal.{refused_text, line_feed}
+use Rattle.cap_session.specs.Replies.{ScriptState}
 use Rattle.cap_session.specs.Scripts.{Run}
 use Rattle.cap_session.specs.Settings.{report_by}
 

@@ -8,7 +8,8 @@ use Rattle.cap_session.specs.Lines.{whole_lines, last_piece, line_if_any}
 use Rattle.cap_session.specs.Trace.{is_skipped}
 use Rattle.cap_session.specs.Writes.{Wrote, WrotePrefix}
 use Rattle.cap_session.specs.Commands.{Asked, asked}
-use Rattle.cap_session.specs.Replies.{Done, Keeping, ScriptState, becomes, commanded, may_run_out, refused_text, stays}
+use Rattle.cap_session.specs.Refusal.{refused_text}
+use Rattle.cap_session.specs.Replies.{Done, Keeping, Says, ScriptState, becomes, commanded, may_run_out, stays}
 use Rattle.cap_session.specs.Origins.{Base, IsKeptAs}
 
 -- What is kept stays, or becomes this, or is lost where memory is refused for it.
@@ -18,7 +19,7 @@ Keeps (becomes base) old new = IsKeptAs base new
 
 -- A command was done: this is its reply, and what it leaves.
 pub record Does (t : ScriptState) (done : Done) (text : List ℕ) (u : ScriptState) : Type 0 where
-  pub reply : text ≡ done.text
+  pub reply : Says done.reply text
   pub trace : u.trace ≡ done.trace
   pub keeps : Keeps done.keeping t.base u.base
 

@@ -1,11 +1,12 @@
 -- The trace that a text spells: a list of entries, or its first refused line.
-use Rattle.std.specs.Prelude.{ℕ, ◌==◌, Bool, true, nat_le, List, [], ◌∷◌, ◌++◌, length, if◌then◌else◌, Result, Ok, Err}
+use Rattle.std.specs.Prelude.{ℕ, ◌==◌, Bool, true, nat_le, List, [], ◌∷◌, ◌++◌, filter, length, not, if◌then◌else◌, Result, Ok, Err}
 use Rattle.std.specs.Prelude.{Option}
 use Rattle.cap_trace.specs.declared.fault.FirstFault.{FirstFault}
 use Rattle.cap_trace.specs.Entry.{Entry}
 use Rattle.cap_trace.specs.Reading.{line_of}
 use Rattle.cap_trace.specs.Fault.{line_fault}
 use Rattle.cap_session.specs.Limits.{most_lines}
+use Rattle.cap_session.specs.Lines.{whole_lines}
 use Rattle.cap_session.specs.Texts.{whole_text, refused_so_far}
 use Rattle.cap_session.specs.Refused.{refused_line}
 use Rattle.cap_session.specs.declared.refused.Refusal.{Refusal}
@@ -16,6 +17,10 @@ use Rattle.cap_session.specs.declared.refused.Refused.TheVariants.{Full}
 abbrev pub is_skipped : List ℕ → Bool
 is_skipped [] = true
 is_skipped (b ∷ line) = b == 35
+
+-- how many lines of a text, each with its LF, are neither empty nor comments
+abbrev pub counted_lines : List ℕ → ℕ
+counted_lines text = length (filter (λ line. not (is_skipped line)) (whole_lines [] text))
 
 -- the entry of a line comes after the others; a line that spells none is refused with its first fault
 abbrev pub with_entry : List Entry → Result Entry FirstFault → Result (List Entry) Refused

@@ -1,6 +1,6 @@
 //! What a line of a script asks for: [`command_of`] reads it.
 ghost use Rattle.std.specs.Prelude.{◌≡◌, MatchOption, None, Some};
-ghost use Rattle.cap_session.specs.Commands.{asked, asked_alone, asked_with, first_word, after_word, position};
+ghost use Rattle.cap_session.specs.Commands.{asked, asked_alone, asked_at, asked_with, first_word, after_word, position};
 ghost use Rattle.cap_session.specs.Commands.{with_line, with_range, insert_line, replace_line};
 ghost use Rattle.cap_session.specs.Code.Performs.{asked_by};
 
@@ -28,6 +28,9 @@ pub enum Command<'a> {
     Report,
     ReportRange(usize, usize),
     Changes,
+    Explain(usize),
+    Denials,
+    Limits(Option<usize>),
 }
 
 /// The bytes before the first space, and those after it where there is one.
@@ -52,6 +55,10 @@ fn alone(word: &[u8]) -> Option<Command<'static>>
         Some(Command::Report)
     } else if word == b"changes".as_slice() {
         Some(Command::Changes)
+    } else if word == b"denials".as_slice() {
+        Some(Command::Denials)
+    } else if word == b"limits".as_slice() {
+        Some(Command::Limits(None))
     } else {
         None
     }
@@ -93,6 +100,23 @@ fn range_of(rest: &[u8]) -> Option<Command<'static>>
     }
 }
 
+/// `delete`, `show`, `explain` or `limits` with a position.
+fn with_position(word: &[u8], position: usize) -> Option<Command<'static>>
+    ensures { asked_by result ≡ asked_at word.now position }
+{
+    if word == b"delete".as_slice() {
+        Some(Command::Edit(Edit::Delete { position }))
+    } else if word == b"show".as_slice() {
+        Some(Command::Show(position))
+    } else if word == b"explain".as_slice() {
+        Some(Command::Explain(position))
+    } else if word == b"limits".as_slice() {
+        Some(Command::Limits(Some(position)))
+    } else {
+        None
+    }
+}
+
 /// A word, and what follows the space after it.
 fn with_rest<'a>(word: &[u8], rest: &'a [u8]) -> Option<Command<'a>>
     ensures { asked_by result ≡ asked_with word.now rest.now }
@@ -101,20 +125,10 @@ fn with_rest<'a>(word: &[u8], rest: &'a [u8]) -> Option<Command<'a>>
         insert_of(rest)
     } else if word == b"replace".as_slice() {
         replace_of(rest)
-    } else if word == b"delete".as_slice() {
-        match number_of(rest) {
-            Some(position) => Some(Command::Edit(Edit::Delete { position })),
-            None => None,
-        }
-    } else if word == b"show".as_slice() {
-        match number_of(rest) {
-            Some(position) => Some(Command::Show(position)),
-            None => None,
-        }
     } else if word == b"report".as_slice() {
         range_of(rest)
     } else {
-        None
+        with_position(word, number_of(rest)?)
     }
 }
 

@@ -5,13 +5,14 @@ ghost use Rattle.std.specs.Option.{ForSome};
 ghost use Rattle.cap_trace.specs.Entry.{Entry};
 ghost use Rattle.cap_trace.specs.Reading.{line_of};
 ghost use Rattle.cap_session.specs.Limits.{most_lines};
-ghost use Rattle.cap_session.specs.Trace.{is_skipped, trace, trace_so_far};
+ghost use Rattle.cap_session.specs.Trace.{counted_lines, is_skipped, trace, trace_so_far};
 ghost use Rattle.cap_session.specs.Code.Traced.{Inquiry, Traced, one_more, next_traced, Follows, Holds};
 ghost use Rattle.cap_session.specs.Reads.{Reads};
 ghost use Rattle.cap_session.specs.Code.Feeds.{TakesLine};
 
 use crate::devices::Source;
 use crate::limits::MOST_LINES;
+use crate::line_ends::LineEnds;
 use crate::lines::{Lines, StopReason};
 use crate::read::read_text;
 use crate::refused::Refused;
@@ -27,6 +28,20 @@ pub fn is_skipped(line: &[u8]) -> bool
         [] => true,
         [first, ..] => *first == b'#',
     }
+}
+
+/// How many lines of a text, each with its line feed, are neither empty nor a comment.
+pub fn count_lines(text: &[u8]) -> usize
+    ensures { result ≡ counted_lines text.now }
+{
+    let mut count = 0;
+    let mut ends = LineEnds::of(text);
+    while let Some(line) = ends.next() {
+        if !is_skipped(line) {
+            count += 1;
+        }
+    }
+    count
 }
 
 /// What keeps the lines of a trace.

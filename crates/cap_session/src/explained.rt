@@ -10,9 +10,11 @@ ghost use Rattle.cap_machine.specs.Rule.{requirement};
 ghost use Rattle.cap_machine.specs.State.{start_state};
 ghost use Rattle.cap_session.specs.Code.Explained.{CellStands, AnyModeStands, FitsLine};
 ghost use Rattle.cap_session.specs.Explaining.{finding_lines, denial_lines, all_cell_lines, any_mode_lines};
-ghost use Rattle.cap_session.specs.Explaining.{explained_text, explained_line, IsClean};
+ghost use Rattle.cap_session.specs.Explaining.{chain_lines, explained_text, explained_line, said_lines, IsClean};
+ghost use Rattle.cap_session.specs.Trace.{counted_lines};
 
 use crate::chains::{put_cell_origin, put_mode_origin, put_numbered};
+use crate::entries::count_lines;
 use crate::refused::Refused;
 use crate::trace::{Trace, is_position};
 use crate::wording::{put_denied, put_found};
@@ -28,6 +30,9 @@ use std::alloc::Global;
 pub struct ExplainedLine {
     /// The line, its findings, what was lacking for it, and the lines that these rest on; `docs/EXPLAIN.md` says how.
     pub text: Vec<u8>,
+    /// How many lines of the text are of these chains: for each descriptor and for the mode, where it can matter, the lines that
+    /// it comes from, and one for the start where they lead there.
+    pub links: usize,
     /// Whether it has no finding.
     pub is_clean: bool,
 }
@@ -100,25 +105,36 @@ fn checks_of(line: &Line) -> Checks
     requirement_of_line(&line.view()).checks
 }
 
-/// The text of what the line at a position rests on.
-fn text_of<T: Trace>(
-    alloc: Global,
+/// Appends the line at a position, its findings, and what was lacking for it.
+fn put_said<T: Trace>(
+    out: &mut Vec<u8>,
     trace: &T,
     position: usize,
     explanation: &Explanation,
-) -> Result<Vec<u8>, NoMemory>
+) -> Result<(), NoMemory>
     requires { FitsLine (T.lines trace.now) position (explained_by explanation.now) }
-    ensures { IfOk result
-        (λ text. text.items ≡ explained_text (T.lines trace.now) position (explained_by explanation.now)) }
+    ensures { OnOk result (out.new.items
+        ≡ out.old.items ++ said_lines (T.lines trace.now) position (explained_by explanation.now)) }
 {
-    let mut text = Vec::new(alloc);
+    put_numbered(out, trace, position)?;
+    put_findings(out, &explanation.verdict)?;
+    put_denials(out, &explanation.denials)
+}
+
+/// Appends the lines that this rests on.
+fn put_chains<T: Trace>(
+    out: &mut Vec<u8>,
+    trace: &T,
+    position: usize,
+    explanation: &Explanation,
+) -> Result<(), NoMemory>
+    requires { FitsLine (T.lines trace.now) position (explained_by explanation.now) }
+    ensures { OnOk result (out.new.items
+        ≡ out.old.items ++ chain_lines (T.lines trace.now) position (explained_by explanation.now)) }
+{
     let checks = checks_of(trace.line_at(position));
-    put_numbered(&mut text, trace, position)?;
-    put_findings(&mut text, &explanation.verdict)?;
-    put_denials(&mut text, &explanation.denials)?;
-    put_cells(&mut text, trace, &checks, explanation.cells.as_slice())?;
-    put_mode(&mut text, trace, &explanation.mode)?;
-    Ok(text)
+    put_cells(out, trace, &checks, explanation.cells.as_slice())?;
+    put_mode(out, trace, &explanation.mode)
 }
 
 /// The line at a position with its explanation.
@@ -131,11 +147,18 @@ pub fn line_explained<T: Trace>(
     requires { FitsLine (T.lines trace.now) position (explained_by explanation.now) }
     ensures text { IfOk result
         (λ line. line.text.items ≡ explained_text (T.lines trace.now) position (explained_by explanation.now)) }
+    ensures links { IfOk result (λ line. line.links
+        ≡ counted_lines (chain_lines (T.lines trace.now) position (explained_by explanation.now))) }
     ensures clean { IfOk result (λ line. IsTrue line.is_clean ↔ ((explained_by explanation.now).findings ≡ [])) }
 {
-    let text = text_of(alloc, trace, position, explanation)?;
+    let mut text = Vec::new(alloc);
+    put_said(&mut text, trace, position, explanation)?;
+    let before = text.len();
+    put_chains(&mut text, trace, position, explanation)?;
+    let links = count_lines(&text.as_slice()[before..]);
     Ok(ExplainedLine {
         text,
+        links,
         is_clean: explanation.verdict.len() == 0,
     })
 }

@@ -8,7 +8,7 @@ ghost use Rattle.cap_session.specs.ExplainStreams.{explanation_says};
 ghost use Rattle.cap_session.specs.LimitStreams.{limits_say};
 ghost use Rattle.cap_session.specs.Outcome.{found};
 ghost use Rattle.cap_session.specs.Code.Queries.{query_says};
-ghost use Rattle.cap_session.specs.Replies.{refused_text};
+ghost use Rattle.cap_session.specs.Refusal.{refused_text};
 ghost use Rattle.cap_session.specs.Code.Works.{Writes, WritesAnswer};
 ghost use Rattle.cap_session.specs.declared.outcome.Outcome.TheVariants.{WriteFault};
 ghost use Rattle.cap_session.specs.declared.outcome.ExplainOutcome.TheVariants.{Ended, OutOfRange};
@@ -71,6 +71,7 @@ fn answer_among(
         Query::Limits(at) => match limits_among(alloc, profile, start, lines, at) {
             Ok(text) => Ok(ExplainedLine {
                 text,
+                links: 0,
                 is_clean: true,
             }),
             Err(refused) => Err(refused),

@@ -8,13 +8,14 @@ ghost use Rattle.cap_session.specs.Scripts.{Answers, Scripting, Replied, Broken,
 use crate::command::{Command, command_of};
 use crate::devices::{Failed, Sink};
 use crate::edit::Edit;
-use crate::entries::is_skipped;
+use crate::entries::{count_lines, is_skipped};
 use crate::limits::{LONGEST_SCRIPT_LINE, MOST_HELD};
 use crate::line_buffer::LineBuffer;
 use crate::line_ends::LineEnds;
 use crate::refused::Refused;
 use crate::session::Session;
 use crate::short_text::ShortText;
+use crate::wording::put_between;
 use crate::write::write_text;
 use std::marker::Model;
 
@@ -63,6 +64,27 @@ fn perform_show(session: &Session, position: usize) -> Result<Reply, Refused>
     Ok(Reply::Long(text))
 }
 
+/// Replies with the explanation of a line, and how many lines it rests on.
+fn perform_explain(session: &Session, position: usize) -> Result<Reply, Refused>
+    ensures { Performs session.now.setting (state_of session.now)
+        (command_asked (Command.Explain position)) result (state_of session.now) }
+{
+    let mut line = session.explain(position)?;
+    put_between(&mut line.text, b"explained ", line.links as u64, b"\n")?;
+    Ok(Reply::Long(line.text))
+}
+
+/// Replies with the script of limits, and how many lines it puts in.
+fn perform_limits(session: &Session, at: Option<usize>) -> Result<Reply, Refused>
+    ensures { Performs session.now.setting (state_of session.now)
+        (command_asked (Command.Limits at)) result (state_of session.now) }
+{
+    let mut text = session.limits(at)?;
+    let count = count_lines(text.as_slice());
+    put_between(&mut text, b"limits ", count as u64, b"\n")?;
+    Ok(Reply::Long(text))
+}
+
 /// Does a command, and gives its reply.
 fn perform(session: &mut Session, command: &Command<'_>) -> Result<Reply, Refused>
     requires { session.old.limit ≡ most_lines }
@@ -81,6 +103,9 @@ fn perform(session: &mut Session, command: &Command<'_>) -> Result<Reply, Refuse
         Command::Report => Ok(Reply::Long(session.report()?)),
         Command::ReportRange(first, last) => Ok(Reply::Long(session.report_range(first, last)?)),
         Command::Changes => Ok(Reply::Long(session.changes()?)),
+        Command::Explain(position) => perform_explain(session, position),
+        Command::Denials => Ok(Reply::Long(session.denials()?)),
+        Command::Limits(at) => perform_limits(session, at),
     }
 }
 

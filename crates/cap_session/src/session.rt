@@ -11,11 +11,11 @@ ghost use Rattle.cap_machine.specs.State.{start_state};
 ghost use Rattle.cap_machine.specs.Steps.{steps};
 ghost use Rattle.cap_machine.specs.declared.cell.Profile.TheVariants.{One};
 ghost use Rattle.cap_session.specs.Edits.{inserted, deleted, replaced, loaded, edited, after, answers};
-ghost use Rattle.cap_session.specs.Explaining.{explained_line, IsClean};
+ghost use Rattle.cap_session.specs.Explaining.{explained_line, explained_links, IsClean};
 ghost use Rattle.cap_session.specs.LimitStreams.{IsLimitsText, IsOutside};
 ghost use Rattle.cap_session.specs.Joins.{JoinsAfter};
 ghost use Rattle.cap_session.specs.Limits.{most_lines};
-ghost use Rattle.cap_session.specs.Replies.{shown, is_range, ranged};
+ghost use Rattle.cap_session.specs.Shown.{shown, is_range, ranged};
 ghost use Rattle.cap_session.specs.Session.{SessionState, RefusesExactly, ran_out, lines_of, lines_at, IsIn};
 ghost use Rattle.cap_session.specs.Session.{IsSession, IsLast, base_kept};
 ghost use Rattle.cap_session.specs.Settings.{found_by, report_by, state_before, usually};
@@ -559,6 +559,8 @@ impl Session {
     pub fn explain(&self, position: usize) -> Result<ExplainedLine, Refused>
         ensures text { IfOk result (λ line. explained_line (state_before self.now.setting) self.now.setting.profile
             self.now.trace position ≡ Ok line.text.items) }
+        ensures links { IfOk result (λ line. explained_links (state_before self.now.setting) self.now.setting.profile
+            self.now.trace position ≡ Ok line.links) }
         ensures clean { IfOk result (λ line. IsTrue line.is_clean
             ↔ IsClean (state_before self.now.setting) self.now.setting.profile self.now.trace position) }
         ensures position { (result ≡ Err Refused.Position) ↔ (explained_line (state_before self.now.setting)

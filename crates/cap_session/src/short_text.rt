@@ -1,7 +1,6 @@
 //! Short texts: that of a refused line, and replies.
 ghost use Rattle.std.specs.Prelude.{◌≡◌, ◌+◌, ◌≤◌, List, ℕ, [], ◌++◌, length, take, decimal};
-ghost use Rattle.cap_session.specs.Refusal.{refusal_text, input_words};
-ghost use Rattle.cap_session.specs.Replies.{refused_text, line_feed};
+ghost use Rattle.cap_session.specs.Refusal.{input_words, line_feed, refusal_text, refused_text};
 
 use crate::refused::{Input, Refusal};
 use itoa::Buffer;

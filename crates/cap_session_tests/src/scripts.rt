@@ -19,7 +19,7 @@ const EXECUTED: &[u8] =
 /// What is known of a process: that it may read from a descriptor.
 const READING: &[u8] = b"100 unsure unknown 0=CAP_READ\n";
 
-static SCRIPTS: [Worked<'static>; 16] = [
+static SCRIPTS: [Worked<'static>; 18] = [
     (
         Edit,
         b"100 @start(0,3)\n100 cap_rights_limit(0,CAP_READ) RET 0\n100 cap_rights_limit(0,CAP_READ|CAP_WRITE) RET 0\n100 write(0) RET 1\n",
@@ -89,6 +89,20 @@ static SCRIPTS: [Worked<'static>; 16] = [
         b"count\n",
         Ended(StartRefused { code: 4, line: 1 }),
         "refused E4 start line 1\n",
+    ),
+    (
+        Edit,
+        LIMITED,
+        b"explain 3\nexplain 4\nexplain\ndenials\nlimits\ndelete 2\nexplain 2\n",
+        Ended(Clean),
+        "3 100 write(0) RET 5\nmissing 0 CAP_WRITE\n0 2 100 cap_rights_limit(0,CAP_READ) RET 0\n0 1 100 @start(0,3)\nexplained 2\nrefused E7\nrefused E10\ndenials 0\nlimits 0\nok 2\n2 100 write(0) RET 5\n0 1 100 @start(0,3)\nexplained 1\n",
+    ),
+    (
+        EditFrom(One, READING),
+        b"100 write(0) RET -1 errno 93\n100 read(0) RET 1\n",
+        b"denials\nlimits 2\nlimits 3\nlimits x\nexplain 1\n",
+        Ended(Clean),
+        "1 100 write lacks 0 CAP_WRITE\ndenials 1\n# process 100 before line 2\ninsert 2 100 cap_rights_limit(0,CAP_READ) RET 0\ninsert 3 100 cap_enter() RET 0\nlimits 2\nrefused E7\nrefused E10\n1 100 write(0) RET -1 errno 93\nlacks 0 CAP_WRITE\n0 start CAP_READ\nexplained 1\n",
     ),
     (Edit, b"", &[b'#'; 1056], Ended(Clean), ""),
     (Edit, b"", &[b'#'; 1057], Ended(Clean), "refused E1\n"),

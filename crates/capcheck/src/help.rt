@@ -86,6 +86,11 @@ the lines of the trace that are not, from 1. The commands:
   changes         prints what went (`- `) and what came (`+ `) since the last
                   `report` or `changes`, and how many there are now; `all` and
                   each finding where there is nothing to compare with
+  explain K       prints what `capcheck explain` prints of line K, and `explained`
+                  with the number of lines that begin with a descriptor or `mode`
+  denials         prints what `capcheck denials` prints
+  limits [K]      prints the script that `capcheck limits` prints, and `limits`
+                  with the number of its inserts
 
 The reply to an edit is `ok` and the number of lines. The reply to what can't be
 done is `refused` and a code, and the trace stays as it was:

@@ -2,7 +2,8 @@
 -- is replied to.
 use Rattle.std.specs.Prelude.{◌≡◌, List, ℕ, Result, Ok, Err, IsOk, IsTrue, ◌⊎◌, Option, None, Some}
 use Rattle.cap_session.specs.declared.session.Setting.{Setting}
-use Rattle.cap_session.specs.Commands.{Asked, show_line, count_lines, report_all, report_lines, tell_changes, unknown, edit_asked}
+use Rattle.cap_session.specs.Commands.{Asked, show_line, count_lines, report_all, report_lines, tell_changes, explain_line}
+use Rattle.cap_session.specs.Commands.{tell_denials, tell_limits, unknown, edit_asked}
 use Rattle.cap_session.specs.Replies.{Done, ScriptState, commanded, may_run_out}
 use Rattle.cap_session.specs.Scripts.{Does}
 use Rattle.cap_session.specs.Session.{SessionState}
@@ -22,6 +23,9 @@ command_asked commands.Count = count_lines
 command_asked commands.Report = report_all
 command_asked (commands.ReportRange first last) = report_lines first last
 command_asked commands.Changes = tell_changes
+command_asked (commands.Explain position) = explain_line position
+command_asked commands.Denials = tell_denials
+command_asked (commands.Limits at) = tell_limits at
 
 -- what a line asks for, by its command
 abbrev pub asked_by : Option Command → Asked

@@ -3,7 +3,7 @@ use Rattle.std.specs.Prelude.{IfOk}
 use Rattle.cap_machine.specs.State.{start_state}
 use Rattle.cap_session.specs.Outcome.{found}
 use Rattle.cap_session.specs.Code.Queries.{query_says}
-use Rattle.cap_session.specs.Replies.{refused_text}
+use Rattle.cap_session.specs.Refusal.{refused_text}
 use Rattle.cap_session.specs.declared.explaining.Query.{Query}
 use Rattle.cap_session.specs.declared.explained.ExplainedLine.{ExplainedLine}
 use Rattle.cap_session.specs.declared.refused.Refused.TheVariants.{Position}

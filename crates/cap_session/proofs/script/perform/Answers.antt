@@ -1,11 +1,14 @@
 use Rattle.std.proofs.Common.{[], ◌++◌, ◌∙◌, Ok, ap, length, refl, sym}
 use Rattle.std.specs.Prelude.{decimal}
 use Rattle.std.proofs.lemmas.List.{append-nil}
+use Rattle.cap_machine.specs.DenialReport.{denial_report}
+use Rattle.cap_machine.specs.Steps.{steps}
 use Rattle.cap_session.specs.Changes.{changes}
 use Rattle.cap_session.specs.Code.Performs.{state_of}
-use Rattle.cap_session.specs.Commands.{count_lines, report_all, report_lines, tell_changes}
-use Rattle.cap_session.specs.Replies.{line_feed, ranged}
-use Rattle.cap_session.specs.Settings.{report_by}
+use Rattle.cap_session.specs.Commands.{count_lines, report_all, report_lines, tell_changes, tell_denials}
+use Rattle.cap_session.specs.Refusal.{line_feed}
+use Rattle.cap_session.specs.Shown.{ranged}
+use Rattle.cap_session.specs.Settings.{report_by, state_before}
 use Rattle.cap_session.specs.declared.script.Reply.TheVariants.{Long, Short}
 use Rattle.cap_session.proofs.Performed.{shown_is, told_is}
 use Rattle.cap_session.proofs.script.perform.Goals as goal
@@ -38,3 +41,11 @@ returns-in_ok-changes-in-Changes-clause-performs c =
     let told = c.in_ok-changes-in-Changes in
     rw c.in-Changes.is (told_is t c.changes.new.self tell_changes (changes t.setting t.base t.trace) (Long told.field-0)
     refl told.ensures.text told.ensures.base told.ensures.unchanged)
+
+pub returns-in_ok-denials-in-Denials-clause-performs : goal.returns-in_ok-denials-in-Denials-clause-performs
+returns-in_ok-denials-in-Denials-clause-performs c =
+    let t = c.args.session.now in
+    let told = c.in_ok-denials-in-Denials in
+    rw c.in-Denials.is (shown_is t.setting (state_of t) tell_denials [] told.field-0.items
+    (Ok (denial_report (state_before t.setting) (steps t.setting.profile t.trace))) (Long told.field-0) refl
+    (ap Ok (sym told.ensures.denials)) (sym (append-nil told.field-0.items)))

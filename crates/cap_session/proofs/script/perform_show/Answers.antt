@@ -1,7 +1,8 @@
 use Rattle.std.proofs.Common.{refl}
 use Rattle.cap_session.specs.Code.Performs.{state_of}
 use Rattle.cap_session.specs.Commands.{show_line}
-use Rattle.cap_session.specs.Replies.{line_feed, shown}
+use Rattle.cap_session.specs.Refusal.{line_feed}
+use Rattle.cap_session.specs.Shown.{shown}
 use Rattle.cap_session.specs.declared.script.Reply.TheVariants.{Long}
 use Rattle.cap_session.proofs.Performed.{shown_is}
 use Rattle.cap_session.proofs.script.perform_show.Goals as goal

@@ -1,14 +1,14 @@
 use Rattle.std.proofs.Common.{rules, ◌≡◌, List, ap, refl, subst, sym, ◌∙◌, true, false, length}
-use Rattle.std.specs.Prelude.{◌↔◌, IsTrue}
+use Rattle.std.specs.Prelude.{◌↔◌, IsTrue, Ok}
 use Rattle.cap_machine.specs.declared.step.Step.{Step}
 use Rattle.cap_machine.specs.Explain.{explanation}
 use Rattle.cap_machine.specs.Steps.{steps}
 use Rattle.cap_summary.specs.Stands.{summed_up}
 use Rattle.cap_session.specs.Edits.{is_position}
-use Rattle.cap_session.specs.Explaining.{IsClean}
+use Rattle.cap_session.specs.Explaining.{IsClean, explained_links}
 use Rattle.cap_session.specs.Session.{SessionState, lines_of}
 use Rattle.cap_session.specs.Settings.{state_before}
-use Rattle.cap_session.proofs.Explains.{fits_line, has_line, has_no_line, is_clean}
+use Rattle.cap_session.proofs.Explains.{fits_line, has_line, has_no_line, is_clean, links_are}
 use Rattle.cap_session.proofs.session.Session.explain.Goals as goal
 
 pub line_explained-line-requires : goal.line_explained-line-requires
@@ -33,6 +33,19 @@ returns-clause-clean c =
     (is_clean s held.setting.profile (lines_of held.tree) k _ c.in-Some.explanation _
     (c.in_ok-explanation.ensures ∙ ap (λ (t : List Step). explanation s t k) what) c.in-Some.is
     c.in_ok-line.ensures.clean)
+
+pub returns-clause-links : goal.returns-clause-links
+returns-clause-links c =
+    let held = c.self.inside in
+    let s = state_before held.setting in
+    let k = c.args.position in
+    let what : summed_up c.summary.result.now ≡ steps held.setting.profile (lines_of held.tree) =
+    c.summary.ensures.steps ∙ c.self.invariant.in_profile in
+    subst (λ (now : SessionState). explained_links (state_before now.setting) now.setting.profile now.trace k
+    ≡ Ok c.in_ok-line.field-0.links) c.self.view_is
+    (links_are s held.setting.profile (lines_of held.tree) k _ c.in-Some.explanation _
+    (c.in_ok-explanation.ensures ∙ ap (λ (t : List Step). explanation s t k) what) c.in-Some.is
+    c.in_ok-line.ensures.links)
 
 pub returns-then-not-is_position-clause-position : goal.returns-then-not-is_position-clause-position
 returns-then-not-is_position-clause-position c =
