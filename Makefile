@@ -10,8 +10,8 @@
 #   make examples   the tests of the built program alone (tests/run.py), with ./capcheck
 #   make wrong      the wrong bodies that the gate leaves out (tests/wrong): the prover must refuse each, and it takes hours
 #   make refusals   each call that takes memory, with each of its allocations refused
-#   make bench      times the program, and reading alone, on traces of a million lines beside `wc -l`, and sessions, denials and
-#                   limits beside a check; where valgrind is installed, counts instructions too
+#   make bench      times the program, and reading alone, on traces of a million lines beside `wc -l`, and sessions, denials,
+#                   limits and the page of annotate beside a check; where valgrind is installed, counts instructions too
 #   make dist       makes the archives of a release in dist/, of a proved build for every x86-64, and tries them (CONTRIBUTING.md)
 #   make install    puts the program, its tools, manual pages and completions under PREFIX (default /usr/local)
 #   make uninstall  takes them away
@@ -72,6 +72,7 @@ bench: capcheck
 	bench/edit_times.py ./capcheck
 	bench/session_times.py ./capcheck
 	bench/command_times.py ./capcheck
+	bench/page_times.py ./capcheck
 	bench/parse_times.py
 	if command -v valgrind >/dev/null; then for script in bench/*_instructions.py; do $$script ./capcheck || exit 1; done; fi
 

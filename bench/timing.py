@@ -35,7 +35,7 @@ IN_PROFILE_2 = ("execs", "turns")
 WEIGH = ("/usr/bin/time", "-f", "%M")
 CALLGRIND = ("valgrind", "--tool=callgrind", f"--callgrind-out-file={os.devnull}")
 # How the last line of a session's reply begins, but for a number alone.
-ENDS = (b"ok ", b"refused", b"findings")
+ENDS = (b"ok ", b"refused", b"findings ", b"explained ", b"denials ", b"limits ")
 # A trace: its name in traces.py, that in figures, its lines, the path of a file with them, and the words that have it read.
 Trace = collections.namedtuple("Trace", "kind name lines path words")
 # A run, or several: seconds by the clock, of the user and of the processor, peak memory in MB, and what was written to standard

@@ -495,6 +495,7 @@ FOUND = {f"refused_{count}": found(refused=count) for count in (100, 2_500, 16_0
 FOUND.update({f"lacking_{count}": found(lacking=count) for count in (2_500, 16_000)})
 FOUND.update({f"lacking_250_beside_{count}": found(refused=count, lacking=250) for count in (2_500, 16_000)})
 TRACES.update(FOUND)
+TRACES["lacking_10000"] = found(lacking=10_000)
 
 
 def neighbour(made, place, rng):

@@ -15,7 +15,6 @@ is no answer.
 import argparse
 import base64
 import collections
-import concurrent.futures
 import hashlib
 import html
 import json
@@ -25,11 +24,11 @@ import shlex
 import shutil
 import subprocess
 import sys
+import tempfile
 from typing import NamedTuple, Optional
 
 LAST_DESCRIPTOR = 1_048_575
 LONGEST_EXPLANATION = 100  # lines; the rest of a longer one is left out
-MOST_WORKERS = 4  # runs of `capcheck explain` at the same time: each loads the trace
 
 # Calls whose number arguments are descriptors, and those whose answer is one or two. This is for the page's filter alone.
 # tools/calls.py: descriptors
@@ -42,8 +41,6 @@ MAKES = set("accept dup accept4 dup2 open openat socket socketpair pipe2 pipe kq
 # end
 MAKES.update(f"fcntl,{command}" for command in ("F_DUPFD", "F_DUPFD_CLOEXEC", "F_DUP2FD", "F_DUP2FD_CLOEXEC"))
 QUOTED = re.compile(r'"(?:[^"\\]|\\.)*"')
-LINE = re.compile(r"([0-9]+) (@?[a-z_][a-z0-9_]*)\((.*)\)(?: RET (.*))?", re.S)
-REFUSED_BY_KERNEL = re.compile(rb"\) RET -1 errno (93|94)$")
 SAYS_REFUSED = re.compile(rb"[0-9]+ @refused\(")
 LINK = re.compile(r"([0-9]+|mode) (?:([0-9]+) .*|(start .*))")
 DENIAL = re.compile(r"lacks [0-9]+ [A-Z_|]+|inside|unexplained")  # what was lacking for a refused line: no link
@@ -127,6 +124,23 @@ class Program:
         done = subprocess.run([self.path, command, *self.options, *words], input=trace, stdout=subprocess.PIPE)
         return done.returncode, done.stdout.decode("latin-1").removesuffix("\n").split("\n")
 
+    def replies(self, trace, script, end):
+        """The replies of one session to the lines of a script, each with its lines before the one that begins with `end`."""
+        with tempfile.NamedTemporaryFile() as file, tempfile.TemporaryFile() as asked:
+            file.write(trace)
+            file.flush()
+            asked.write(script)
+            asked.seek(0)
+            with subprocess.Popen([self.path, "edit", *self.options, file.name], stdin=asked, stdout=subprocess.PIPE) as session:
+                lines = []
+                for line in session.stdout:
+                    lines.append(line.decode("latin-1").removesuffix("\n"))
+                    if lines[-1].startswith(f"{end} "):
+                        yield lines[:-1]
+                        lines = []
+        if lines:
+            raise ValueError(f"{self.path} replied {lines[0]!r}")
+
 
 class Answer:
     """The report of a trace."""
@@ -174,32 +188,29 @@ def shown(line):
 
 def descriptors_of(line):
     """The descriptors that a line names."""
-    found = LINE.fullmatch(line.decode("latin-1"))
-    if not found:
-        return []
-    _, name, args, answer = found.groups()
-    words = QUOTED.sub("", args).split(",") if name in TAKES else []
+    name, _, rest = line.decode("latin-1").partition(" ")[2].partition("(")
+    args, _, answer = rest.rpartition(") RET ") if ") RET " in rest else (rest.removesuffix(")"), "", "")
+    words = (QUOTED.sub("", args) if '"' in args else args).split(",") if name in TAKES else []
     made = f"{name},{words[1]}" if name == "fcntl" and len(words) > 1 else name
     if made in MAKES and answer:
         words += answer.split(",")
     elif name == "pdfork" and answer:
         words += answer.split(",")[1:]
-    numbers = {int(word) for word in words if re.fullmatch("[0-9]{1,7}", word, re.ASCII)}
-    return sorted(number for number in numbers if number <= LAST_DESCRIPTOR)
+    return sorted({int(word) for word in words if len(word) < 8 and word.isdecimal() and int(word) <= LAST_DESCRIPTOR})
 
 
 def errno_of(line):
     """93 or 94 where the kernel refused the call with it, 93 of the marker that says so, else 0."""
-    found = REFUSED_BY_KERNEL.search(line)
-    return int(found[1]) if found else 93 if SAYS_REFUSED.match(line) else 0
+    if line.endswith((b") RET -1 errno 93", b") RET -1 errno 94")):
+        return int(line[-2:])
+    return 93 if b" @refused(" in line and SAYS_REFUSED.match(line) else 0
 
 
-def explanation_of(program, trace, row):
-    """The explanation of a row with findings. Only the trace up to that line is read: later lines don't change the answer."""
-    _, lines = program.run("explain", trace[:row.end], "/dev/stdin", str(row.position))
+def explanation_of(program, row, lines):
+    """The explanation of a row with findings, from these lines."""
     head = [said.split(" ", 1)[1] for said in row.said]
     links = [LINK.fullmatch(line) for line in lines[1 + len(head):] if not DENIAL.fullmatch(line)]
-    if not lines[0].startswith(f"{row.position} ") or lines[1:1 + len(head)] != head or not all(links):
+    if lines[0].split(" ", 1)[0] != str(row.position) or lines[1:1 + len(head)] != head or not all(links):
         raise ValueError(f"{program.path} printed no explanation of line {row.position}: {lines[0]!r}")
     pairs = [(link[1], int(link[2]) if link[2] else link[3]) for link in links[:LONGEST_EXPLANATION]]
     return Explanation(pairs, len(links) - len(pairs))
@@ -218,11 +229,15 @@ def chosen(rows, most):
 
 def explanations(program, trace, rows, most):
     """Explanations of at most so many lines with findings, by position."""
-    rows = chosen([row for row in rows if row.position and row.said], most)
-    workers = min(MOST_WORKERS, os.cpu_count() or 1)
-    with concurrent.futures.ThreadPoolExecutor(workers) as pool:
-        answers = pool.map(lambda row: explanation_of(program, trace, row), rows)
-        return {row.position: answer for row, answer in zip(rows, answers)}
+    rows = sorted(chosen([row for row in rows if row.position and row.said], most), key=lambda row: row.position)
+    if not rows:
+        return {}
+    script = b"".join(b"explain %d\n" % row.position for row in rows)
+    replies = program.replies(trace[: rows[-1].end], script, "explained")
+    told = {row.position: explanation_of(program, row, lines) for row, lines in zip(rows, replies)}
+    if len(told) < len(rows):
+        raise ValueError(f"{program.path} explained {len(told)} of {len(rows)} lines")
+    return told
 
 
 def print_text(rows, answer, digits, write):
@@ -628,12 +643,13 @@ def page_data(rows, explained, command):
     there is none. Each note is a list too: the place of a line with findings in that list, its findings, its explanation, and how
     many links of that are omitted. An explanation is null, or pairs: a descriptor or "mode", and the place of a line or what was
     known before the trace."""
-    places = {row.position: place for place, row in enumerate(rows) if row.position}
+    named = {known for why in explained.values() for _, known in why.links}
+    places = {row.position: place for place, row in enumerate(rows) if row.position in named}
     lines, notes = [], []
     for place, row in enumerate(rows):
         read = row.position is not None
-        pid, errno, descriptors = (row.pid(), errno_of(row.line), descriptors_of(row.line)) if read else (0, 0, [])
-        lines.append([row.position or 0, shown(row.line), pid, errno, *descriptors])
+        more = [row.pid(), errno_of(row.line), *descriptors_of(row.line)] if read else [0, 0]
+        lines.append([row.position or 0, shown(row.line), *more])
         if row.said:
             why, omitted = explained.get(row.position, (None, 0)) if read else ([], 0)
             why = [[about, places.get(known, known)] for about, known in why] if why is not None else None

@@ -225,6 +225,13 @@ class Capcheck:
             line = self.hear()
         return found
 
+    def told(self, command, end):
+        """The reply to a command that ends with a line which begins so, with that line last."""
+        lines = [self.ask(command)]
+        while not lines[-1].startswith(end + b" "):
+            lines.append(self.hear())
+        return lines
+
     def changes(self):
         """The findings that went since the last report, as they were, those that came, and how many there are. None in place of
         both where it had nothing to compare with."""
@@ -256,7 +263,7 @@ class Session:
     """A trace that capcheck holds, what is found in it, and how to take its edits back."""
 
     def __init__(self, program, options, trace):
-        self.program, self.options = program, options
+        self.program = program
         self.capcheck = Capcheck([program, "edit", *options, trace])
         self.lines, self.found, self.slow, self.undos = [], None, False, []
 
@@ -343,18 +350,6 @@ class Session:
         self.slow = time.monotonic() - start > PATIENCE
         return changed if changed and before is not None else ([], [])
 
-    def run(self, command, *words):
-        """What another command of capcheck prints for the trace as it now is."""
-        words = [self.program, command, *self.options, "/dev/stdin", *words]
-        done = subprocess.run(words, input=self.whole(), capture_output=True)
-        interrupt.look()
-        lines = done.stdout.split(b"\n")[:-1]
-        if lines and lines[0].startswith(b"refused "):
-            raise Refused(lines[0].decode("latin-1"))
-        if done.returncode not in (0, 1):
-            raise Mistake(str(Ended(done.returncode, done.stderr.decode("utf-8", "backslashreplace"))))
-        return lines
-
 
 # The commands. Each takes the session and what was typed after its name.
 
@@ -432,7 +427,7 @@ def report(session, typed):
 def explain(session, typed):
     (position,) = positions(typed, 1, 1)
     session.check(position)
-    for line in session.run("explain", str(position)):
+    for line in session.capcheck.told(b"explain %d" % position, b"explained")[:-1]:
         put(shown(line))
 
 
@@ -441,14 +436,14 @@ def limits(session, typed):
     asked = positions(typed, 0, 1)
     for position in asked:
         session.check(position)
-    for line in session.run("limits", *map(str, asked)):
+    for line in session.capcheck.told(b" ".join([b"limits", *(b"%d" % at for at in asked)]), b"limits")[:-1]:
         put(shown(line))
 
 
 @command("denials", "prints what was lacking for each call that was refused with errno 93 or 94")
 def denials(session, typed):
     positions(typed, 0, 0)
-    for line in session.run("denials"):
+    for line in session.capcheck.told(b"denials", b"denials"):
         put(shown(line))
 
 
