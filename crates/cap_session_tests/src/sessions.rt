@@ -584,7 +584,7 @@ static CASES: [Case<'static>; 20] = [
             ),
             Step::Ask(
                 Query::Changes,
-                Ok("- 2 100 write missing 0 CAP_WRITE\n+ 3 100 write closed 0\nfindings 1\n"),
+                Ok("- 1 100 write missing 0 CAP_WRITE\n+ 3 100 write closed 0\nfindings 1\n"),
             ),
             Step::Apply(&[Delete { position: 2 }], &[Ok(2)]),
             Step::ReportAfter(
