@@ -35,8 +35,8 @@ ended (Ok (suc n)) = 0
 ended (Err e) = 0
 
 -- A write took the first n bytes, one or more, or none where it failed.
-abbrev pub ChunkHandler : {E : Type 0} → Option (List ℕ) → Option (List ℕ) → Result ℕ E → List ℕ → Type 0
-ChunkHandler old new r bytes =
+abbrev pub Takes : {E : Type 0} → Option (List ℕ) → Option (List ℕ) → Result ℕ E → List ℕ → Type 0
+Takes old new r bytes =
     MatchResult r (λ n. Appends old new (take n bytes) × (0 < n) × (n ≤ length bytes)) (λ _. Keeps old new)
 
 -- What was counted of a device: its reads, those that failed and those that answered the end, and its writes that

@@ -4,7 +4,7 @@
 //! `None` claims nothing of them. The counts are known of every device.
 ghost use Rattle.std.specs.Prelude.{◌≡◌, ◌+◌, ◌<◌, ◌≤◌, length, IfOk};
 ghost use Rattle.std.specs.Io.KnownBytes.{ReadConsumes};
-ghost use Rattle.cap_session.specs.Devices.{SourceState, SinkState, failed, ended, ChunkHandler};
+ghost use Rattle.cap_session.specs.Devices.{SourceState, SinkState, failed, ended, Takes};
 
 /// The device failed in this call.
 #[derive(Clone, Copy, Debug, PartialEq, Eq)]
@@ -39,7 +39,7 @@ pub trait Sink {
     fn write(&mut self, bytes: &[u8]) -> Result<usize, Failed>
         requires some { 0 < length bytes.now }
         requires room { 0 < (state self.old).room }
-        ensures bytes { ChunkHandler (state self.old).taken (state self.new).taken result bytes.now }
+        ensures bytes { Takes (state self.old).taken (state self.new).taken result bytes.now }
         ensures failed { (state self.new).failures ≡ (state self.old).failures + failed result }
         ensures room { (state self.old).room ≡ (state self.new).room + failed result };
 
