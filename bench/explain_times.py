@@ -31,7 +31,7 @@ LAST = "2 write(0) RET 1"
 MAIN = r'''//! Times explanations in a session of a trace that comes on standard input, in nanoseconds.
 #![tactic(auto)]
 
-use cap_machine::{Checker, NoMemory, Profile, Start};
+use cap_machine::{Checker, NoMemory, Profile};
 use cap_session::Session;
 use cap_trace::{Line, parse_line};
 use std::alloc::Global;
@@ -65,12 +65,11 @@ fn checked(alloc: Global, lines: &[Line]) -> usize {
 
 /// Times explanations, from the last line back by so many lines each time.
 fn time_explanations(rt: &HostRuntime, name: &str, session: &Session, back: usize) -> io::Result<()> {
-    let start = Start::unknown(rt.alloc());
     let mut position = session.count();
     let mut failed = 0_u64;
     let begun = Instant::now(rt)?;
     for _ in 0..TIMES {
-        if session.explain(position, &start).is_err() {
+        if session.explain(position).is_err() {
             failed = failed.saturating_add(1);
         }
         position = position.saturating_sub(back).max(1);
