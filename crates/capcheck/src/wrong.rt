@@ -155,7 +155,8 @@ fn general<'a>(refused: Option<Refused>) -> Wrong<'a> {
     };
     Wrong::Reason(match refused {
         Refused::LongLine => "the line has more than 1,024 bytes",
-        Refused::Shape => "the line is neither PID NAME(ARGUMENTS) RET RESULT nor PID @NAME(ARGUMENTS)",
+        Refused::Shape =>
+            "the line is neither PID NAME(ARGUMENTS) RET RESULT nor PID @NAME(ARGUMENTS)",
         Refused::Pid => "no pid at the start of the line",
         Refused::Argument => "an argument is wrong, or their number",
         Refused::Right => "a right is wrong",
