@@ -136,6 +136,9 @@ pub fn edit_stream_from_as<Z: Source, T: Source, S: Source, W: Sink>(
 /// - `show K` replies the line's canonical text, `count` the number of lines, `report` the report, and `report A B`
 ///   the findings of the whole check at the positions A to B. `changes` replies what went and what came since the last
 ///   `report` or `changes`.
+/// - `explain K`, `denials`, `limits` and `limits K` reply the texts that `Session::explain`, `denials` and `limits` answer.
+///   After an explanation comes `explained N`, where N is how many lines of it are of chains, and after a script of limits
+///   `limits N`, where N is how many lines it inserts.
 /// - A command that is refused replies `refused E7`, by the code of its refusal, and any other line `refused E10`. One
 ///   for which memory runs out replies `refused E9`. The script goes on.
 ///
