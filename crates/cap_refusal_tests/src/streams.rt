@@ -245,7 +245,9 @@ fn may_be_replied(call: Call, ended: ExplainOutcome, written: &[u8]) -> bool {
 fn replies(alloc: Global, call: Call) -> bool {
     Mark::Begin.set(alloc);
     let (outcome, kept) = streamed(alloc, call);
-    let right = replies_of(call)[0];
+    let Some(right) = replies_of(call).first() else {
+        return false;
+    };
     let is_first = outcome == Ended(right.0) && kept.text() == right.1;
     let may_be = !lacked(alloc, !is_first) || may_be_replied(call, outcome, kept.text());
     may_be && gives(alloc, call, right.0, right.1)
