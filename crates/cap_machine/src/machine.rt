@@ -71,7 +71,9 @@ impl Machine {
         self.apply_line_ref(profile, &line.view())
     }
 
-    /// The same for a line whose texts lie elsewhere.
+    /// Moves on to what is known after a step whose line borrows its texts, and judges nothing.
+    ///
+    /// `NoMemory` when out of memory. What the machine then knows isn't promised: drop it.
     pub fn apply_line_ref(&mut self, profile: Profile, line: &LineRef<'_>) -> Result<(), NoMemory>
         ensures { OnOk result
             (start_state self.new ≡ ended (start_state self.old) (step profile line.now ∷ [])) }

@@ -24,7 +24,7 @@ fn held_before(op: &HeldOp, after: &ByFlag) -> RightSet
     }
 }
 
-/// The same by the flag of the cell.
+/// The rights that are wanted of a held cell with each flag, from those that are wanted of what this op makes of it.
 fn before_op(op: &Op, after: &ByFlag) -> ByFlag
     ensures { (x : OnExec) → flag_rights result x ≡ back_through (held_op op.now x) (flag_rights after.now) }
 {
